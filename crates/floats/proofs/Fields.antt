@@ -1,0 +1,218 @@
+-- The fields of an f64's bits: the sign is the highest bit, and the exponent field of a finite value counts the binary digits that its
+-- magnitude has in units of the smallest value, from the 53rd on. Assumes nothing.
+use mathlib.Core.Path.{_≡_, refl, sym, ap, _∙_, subst}
+use mathlib.Core.Logic.{_⊎_, inl, inr}
+use Prim.Native.Nat.{ℕ, zero, suc, _+_, _-_, _*_, _/_, _%_, _^_, _≤_, _<_}
+use native.Mathlib.Nat.{le-trans, le-of-eq, lt-of-lt-of-le, not-le-of-lt, div-one, le-div-iff-mul-le, mul-mod-left}
+use native.Mathlib.Omega.{arith}
+use mathlib.Core.Bool.{Bool, true, false, not, cond, true≢false}
+use lib.IntN.{ℤ}
+use lib.Dec.{T, leb, eqb, eqb→eq, leb→le, not-T, lit<}
+use lib.Arith.{le→nltb}
+use lib.Pow.{pow-add, pow-pos, pow-mono}
+use lib.Ieee.{Float, nan, inf, fin, Format, binary64, size, odd, neg, fits, isNan, ofFields, ofBits, nanBits, toBits}
+use lib.Ieee.Digits.{size-lt, size-reaches}
+use lib.Ieee.Fits.{kept-lt}
+use lib.Ieee.Bits.{is-false, cond-no, ofBits-toBits, toBits-lt, nanBits-above}
+use lib.Ieee.Exact.{HasValue, odd-sign}
+use Rattle.folds.proofs.Tests.{lt-or-ge}
+use Rattle.floats.specs.TotalOrder.{negative}
+use Rattle.floats.proofs.Values.{unitsOf, toBits-of}
+
+-- ---- the sign
+
+-- the bits without the sign
+abbrev magnitude : ℕ → ℕ
+magnitude n = (size n - 53) * 4503599627370496 + n / 2 ^ (size n - 53)
+
+fits-minus : (f : Format) (s : Bool) (m : ℕ) (e : ℤ) → T (fits f (fin s m e)) → T (fits f (fin true m e))
+unfolding fits
+fits-minus f s zero e h = h
+fits-minus f s (suc m) e h = h
+
+magnitude-lt : (s : Bool) (m : ℕ) (e : ℤ) → T (fits binary64 (fin s m e)) → magnitude (unitsOf binary64 m e) < 9223372036854775808
+magnitude-lt s m e h =
+    let b = toBits-lt binary64 (fin true m e) (fits-minus binary64 s m e h) in
+    let k = size (unitsOf binary64 m e) - 53 in
+    let q = unitsOf binary64 m e / 2 ^ k in
+    let g : 9223372036854775808 + k * 4503599627370496 + q < 18446744073709551616 = subst (λ (x : ℕ). x < 18446744073709551616) (toBits-of binary64 true m e) b in
+    small k q g
+  where
+    small : (k q : ℕ) → 9223372036854775808 + k * 4503599627370496 + q < 18446744073709551616 → k * 4503599627370496 + q < 9223372036854775808
+    small k q g = omega arith
+
+-- the magnitude, as a float
+abbrev pub absolute : Float → Float
+absolute nan = nan
+absolute (inf s) = inf false
+absolute (fin s m e) = fin false m e
+
+pub absolute-number : (x : Float) → T (not (isNan x)) → T (not (isNan (absolute x)))
+unfolding isNan
+absolute-number nan h = h
+absolute-number (inf s) h = tt
+absolute-number (fin s m e) h = tt
+
+pub absolute-plus : (x : Float) → negative (absolute x) ≡ false
+absolute-plus nan = refl
+absolute-plus (inf s) = refl
+absolute-plus (fin s m e) = refl
+
+absolute-fits : (x : Float) → T (fits binary64 x) → T (fits binary64 (absolute x))
+unfolding fits
+absolute-fits nan h = tt
+absolute-fits (inf s) h = tt
+absolute-fits (fin s zero e) h = h
+absolute-fits (fin s (suc m) e) h = h
+
+low-bits : (s : Bool) (k q : ℕ) → k * 4503599627370496 + q < 9223372036854775808
+    → (cond s 9223372036854775808 0 + k * 4503599627370496 + q) % 9223372036854775808 ≡ 0 + k * 4503599627370496 + q
+low-bits true k q h = omega arith
+low-bits false k q h = omega arith
+
+-- the bits below the sign are those of the magnitude
+unsigned : (x : Float) → T (fits binary64 x) → T (not (isNan x)) → toBits binary64 x % 9223372036854775808 ≡ toBits binary64 (absolute x)
+unfolding toBits isNan
+unsigned nan h k = absurd k
+unsigned (inf true) h k = refl
+unsigned (inf false) h k = refl
+unsigned (fin s m e) h k =
+    let n = unitsOf binary64 m e in
+    low-bits s (size n - 53) (n / 2 ^ (size n - 53)) (magnitude-lt s m e h)
+
+pub sign-off : (x : Float) → T (fits binary64 x) → T (not (isNan x)) → ofBits binary64 (toBits binary64 x % 9223372036854775808) ≡ absolute x
+sign-off x h k = ap (ofBits binary64) (unsigned x h k) ∙ ofBits-toBits binary64 (absolute x) (absolute-fits x h)
+
+high-bit : (s : Bool) (k q : ℕ) → k * 4503599627370496 + q < 9223372036854775808
+    → (let b = cond s 9223372036854775808 0 + k * 4503599627370496 + q in b - b % 9223372036854775808) ≡ cond s 9223372036854775808 0
+high-bit true k q h = omega arith
+high-bit false k q h = omega arith
+
+-- and the rest is the sign
+pub sign-part : (x : Float) → T (fits binary64 x) → T (not (isNan x)) → toBits binary64 x - toBits binary64 x % 9223372036854775808 ≡ cond (negative x) 9223372036854775808 0
+unfolding toBits isNan
+sign-part nan h k = absurd k
+sign-part (inf true) h k = refl
+sign-part (inf false) h k = refl
+sign-part (fin s m e) h k =
+    let n = unitsOf binary64 m e in
+    high-bit s (size n - 53) (n / 2 ^ (size n - 53)) (magnitude-lt s m e h)
+
+plus-zero : (n : ℕ) → n + 0 ≡ n
+plus-zero n = omega arith
+
+plus-top : (k q : ℕ) → 0 + k + q + 9223372036854775808 ≡ 9223372036854775808 + k + q
+plus-top k q = omega arith
+
+-- the sign's bit added to a magnitude's bits
+pub sign-on : (s : Bool) (y : Float) → T (not (isNan y)) → negative y ≡ false → toBits binary64 y + cond s 9223372036854775808 0 ≡ toBits binary64 (cond s (neg y) y)
+unfolding toBits neg isNan
+sign-on false y k e = plus-zero (toBits binary64 y)
+sign-on true nan k e = absurd k
+sign-on true (inf true) k e = absurd (true≢false e)
+sign-on true (inf false) k e = refl
+sign-on true (fin true m d) k e = absurd (true≢false e)
+sign-on true (fin false m d) k e =
+    let n = unitsOf binary64 m d in
+    plus-top ((size n - 53) * 4503599627370496) (n / 2 ^ (size n - 53))
+
+pub magnitude-bits : (y : Float) → T (fits binary64 y) → T (not (isNan y)) → negative y ≡ false → toBits binary64 y < 9223372036854775808
+unfolding toBits isNan
+magnitude-bits nan h k e = absurd k
+magnitude-bits (inf true) h k e = absurd (true≢false e)
+magnitude-bits (inf false) h k e = lit< tt
+magnitude-bits (fin true m d) h k e = absurd (true≢false e)
+magnitude-bits (fin false m d) h k e =
+    let n = unitsOf binary64 m d in
+    bare ((size n - 53) * 4503599627370496) (n / 2 ^ (size n - 53)) (magnitude-lt false m d h)
+  where
+    bare : (k q : ℕ) → k + q < 9223372036854775808 → 0 + k + q < 9223372036854775808
+    bare k q g = omega arith
+
+-- ---- the exponent
+
+-- the leading digit, where there are 53 digits or more, adds one to the field
+leading : (n z : ℕ) → size n ≡ z → z - 53 + n / 2 ^ (z - 53) / 4503599627370496 ≡ z - 52
+leading n z e = go (lt-or-ge z 53)
+  where
+    upper : n / 2 ^ (z - 53) < 9007199254740992
+    upper = subst (λ (x : ℕ). n / 2 ^ (x - 53) < 9007199254740992) e (kept-lt 53 n)
+
+    few : z < 53 → z - 53 ≡ 0
+    few h = omega arith
+
+    none : (q : ℕ) → z < 53 → q < 4503599627370496 → z - 53 + q / 4503599627370496 ≡ z - 52
+    none q h l = omega arith
+
+    some : (q : ℕ) → 53 ≤ z → 4503599627370496 ≤ q → q < 9007199254740992 → z - 53 + q / 4503599627370496 ≡ z - 52
+    some q h l u = omega arith
+
+    whole : 53 ≤ z → 52 + (z - 53) < z
+    whole h = omega arith
+
+    go : (z < 53) ⊎ (53 ≤ z) → z - 53 + n / 2 ^ (z - 53) / 4503599627370496 ≡ z - 52
+    go (inl h) =
+        none (n / 2 ^ (z - 53)) h
+        (subst (λ (x : ℕ). n / 2 ^ x < 4503599627370496) (sym (few h))
+        (subst (λ (x : ℕ). x < 4503599627370496) (sym (div-one n)) (lt-of-lt-of-le (size-lt n) (le-trans (le-of-eq (ap (λ (x : ℕ). 2 ^ x) e)) (pow-mono (less h))))))
+      where
+        less : z < 53 → z ≤ 52
+        less g = omega arith
+    go (inr h) =
+        some (n / 2 ^ (z - 53)) h
+        (le-div-iff-mul-le (pow-pos (z - 53)) .1
+        (le-trans (le-of-eq (sym (pow-add 2 52 (z - 53)))) (size-reaches n (52 + (z - 53)) (subst (λ (x : ℕ). 52 + (z - 53) < x) (sym e) (whole h)))))
+        upper
+
+field : (k q : ℕ) → (0 + k * 4503599627370496 + q) / 4503599627370496 ≡ k + q / 4503599627370496
+field k q = omega arith
+
+pub exponent : (m : ℕ) (e : ℤ) → toBits binary64 (fin false m e) / 4503599627370496 ≡ size (unitsOf binary64 m e) - 52
+exponent m e =
+    let n = unitsOf binary64 m e in
+    ap (λ (b : ℕ). b / 4503599627370496) (toBits-of binary64 false m e)
+    ∙ field (size n - 53) (n / 2 ^ (size n - 53))
+    ∙ leading n (size n) refl
+
+-- ---- an exponent field alone is a power of two
+
+ofBits-is : (b : ℕ) → ofBits binary64 b ≡ ofFields binary64 (leb 9223372036854775808 b) (b % 9223372036854775808 / 4503599627370496) (b % 4503599627370496)
+unfolding ofBits
+ofBits-is b = refl
+
+under-ones : (x : ℕ) → suc x < 2047 → ofFields binary64 false (suc x) 0 ≡ odd 53 false 4503599627370496 x 1074
+unfolding ofFields
+under-ones x h =
+    cond-no (eqb (suc x) 2047) (inf false) (odd 53 false 4503599627370496 x 1074) (not-T (eqb (suc x) 2047) (λ (t : T (eqb (suc x) 2047)). differ (eqb→eq (suc x) 2047 t)))
+  where
+    differ : suc x ≡ 2047 → ⊥
+    differ e = omega arith
+
+pub power : (x : ℕ) → suc x < 2047 → HasValue (ofBits binary64 (suc x * 4503599627370496)) false (4503599627370496 * 2 ^ x) (2 ^ 1074)
+power x h =
+    subst (λ (v : Float). HasValue v false (4503599627370496 * 2 ^ x) (2 ^ 1074))
+    (sym (ofBits-is (suc x * 4503599627370496)
+    ∙ ap (λ (s : Bool). ofFields binary64 s (suc x * 4503599627370496 % 9223372036854775808 / 4503599627370496) (suc x * 4503599627370496 % 4503599627370496)) plus
+    ∙ ap (λ (k : ℕ). ofFields binary64 false k (suc x * 4503599627370496 % 4503599627370496)) middle
+    ∙ ap (λ (t : ℕ). ofFields binary64 false (suc x) t) (mul-mod-left (suc x) 4503599627370496)
+    ∙ under-ones x h))
+    (odd-sign 53 false 4503599627370496 x 1074)
+  where
+    below : suc x < 2047 → suc x * 4503599627370496 < 9223372036854775808
+    below g = omega arith
+
+    plus : leb 9223372036854775808 (suc x * 4503599627370496) ≡ false
+    plus = is-false (leb 9223372036854775808 (suc x * 4503599627370496))
+        (not-T (leb 9223372036854775808 (suc x * 4503599627370496)) (λ (t : T (leb 9223372036854775808 (suc x * 4503599627370496))).
+        not-le-of-lt (below h) (leb→le 9223372036854775808 (suc x * 4503599627370496) t)))
+
+    middle : suc x * 4503599627370496 % 9223372036854775808 / 4503599627370496 ≡ suc x
+    middle = omega arith
+
+pub no-nan : (k : ℕ) → k < 2047 → T (not (nanBits binary64 (k * 4503599627370496)))
+no-nan k h =
+    subst (λ (b : Bool). T (not b)) (sym (nanBits-above binary64 (k * 4503599627370496)))
+    (le→nltb (2047 * 4503599627370496) (k * 4503599627370496 % 9223372036854775808) (under h))
+  where
+    under : k < 2047 → k * 4503599627370496 % 9223372036854775808 ≤ 2047 * 4503599627370496
+    under g = omega arith

@@ -1,0 +1,207 @@
+-- Operations and comparisons of finite floats by the fractions that they equal: where x is ±a/c and y is ±b/d, a comparison is
+-- that of a·d with b·c, and an operation is one rounding of the exact result, however the two floats are written.
+use mathlib.Core.Path.{_≡_, refl, sym, ap, ap₂, _∙_}
+use mathlib.Core.Bool.{Bool, true, false, not, _&&_, _||_, Bool·beq, cond, false≢true}
+use Prim.Native.Nat.{ℕ, zero, suc, _+_, _-_, _*_, _^_, _≤_, _<_}
+use native.Mathlib.Nat.{add-comm, zero-add, add-zero, zero-mul, mul-comm, mul-assoc, mul-left-comm, add-mul, mul-pos, mul-mul-mul-comm}
+use native.Mathlib.Nat.{le-trans, le-of-eq, not-le-of-lt, mul-right-comm, mul-sub, mul-le-mul-right, mul-lt-mul-of-pos-right, le-of-mul-le-mul-right, eq-of-mul-eq-mul-right, lt-irrefl, zero-lt-suc}
+use native.Mathlib.Omega.{arith}
+use borrow.Author.Tests.{ltb-true, ltb-false, eqb-true, eqb-false, lt-ltb, le-ltb, eq-eqb, ne-eqb, le-leb, lt-leb}
+use lib.Arith.{lt-of-le-ne}
+use lib.Dec.{T, leb, ltb, ltb→lt, eqb, eqb·suc-zero}
+use lib.Ieee.{Float, nan, inf, fin, Format, prec, emax, low, up, down, unlike, below, level, odd, units, round, sum, neg, add, sub, div, lt, eq, le}
+use lib.Ieee.Fits.{up-pos, down-pos, round-is}
+use lib.Ieee.Exact.{HasValue}
+use lib.Ieee.Scale.{round-same}
+
+-- from one fraction to another of the same size
+pub rescale : (x : Float) (s : Bool) (a c b d : ℕ) → 0 < c → a * d ≡ b * c → HasValue x s a c → HasValue x s b d
+rescale (fin t m e) s a c b d C h v = (
+  v .0,
+  eq-of-mul-eq-mul-right c C (m * up e * d) (b * down e)
+      (mul-right-comm (m * up e) d c ∙ ap (λ (z : ℕ). z * d) (v .1) ∙ mul-right-comm a (down e) d ∙ ap (λ (z : ℕ). z * down e) h ∙ mul-right-comm b c (down e)),
+)
+
+-- ---- a common factor changes no comparison
+ltb-scale : (a b k : ℕ) → 0 < k → ltb (a * k) (b * k) ≡ ltb a b
+ltb-scale a b k K = go (ltb a b) refl
+  where
+    go : (r : Bool) → ltb a b ≡ r → ltb (a * k) (b * k) ≡ r
+    go true e = lt-ltb (a * k) (b * k) (mul-lt-mul-of-pos-right (ltb-true a b e) K)
+    go false e = le-ltb (a * k) (b * k) (mul-le-mul-right k (ltb-false a b e))
+
+eqb-scale : (a b k : ℕ) → 0 < k → eqb (a * k) (b * k) ≡ eqb a b
+eqb-scale a b k K = go (eqb a b) refl
+  where
+    go : (r : Bool) → eqb a b ≡ r → eqb (a * k) (b * k) ≡ r
+    go true e = eq-eqb (a * k) (b * k) (ap (λ (z : ℕ). z * k) (eqb-true a b e))
+    go false e = ne-eqb (a * k) (b * k) (λ (h : a * k ≡ b * k). eqb-false a b e (eq-of-mul-eq-mul-right k K a b h))
+
+below-scale : (s : Bool) (a : ℕ) (t : Bool) (b k : ℕ) → 0 < k → below s (a * k) t (b * k) ≡ below s a t b
+below-scale false a false b k K = ltb-scale a b k K
+below-scale false a true b k K = refl
+below-scale true a false b k K = rw (← add-mul) (ap (λ (z : ℕ). ltb z ((a + b) * k)) (sym (zero-mul k)) ∙ ltb-scale 0 (a + b) k K)
+below-scale true a true b k K = ltb-scale b a k K
+
+level-scale : (s : Bool) (a : ℕ) (t : Bool) (b k : ℕ) → 0 < k → level s (a * k) t (b * k) ≡ level s a t b
+level-scale s a t b k K =
+    ap₂ (λ (p q : Bool). p && (Bool·beq s t || q)) (eqb-scale a b k K) (ap (eqb (a * k)) (sym (zero-mul k)) ∙ eqb-scale a 0 k K)
+
+-- ---- ±a ≤ ±b as one comparison of naturals: each number is a difference, and the parts taken away go to the other side
+abbrev pub above : Bool → ℕ → ℕ
+above s a = cond s 0 a
+
+abbrev pub under : Bool → ℕ → ℕ
+under s a = cond s a 0
+
+le-test : (a b : ℕ) (q : Bool) → (q ≡ true → a ≡ b) → (a ≡ b → q ≡ true) → ltb a b || (q && true) ≡ leb a b
+le-test a b q f g = go (ltb a b) q refl f g
+  where
+    go : (p q : Bool) → ltb a b ≡ p → (q ≡ true → a ≡ b) → (a ≡ b → q ≡ true) → p || (q && true) ≡ leb a b
+    go true q e f g = sym (le-leb a b (omega (arith, ltb-true a b e)))
+    go false true e f g = sym (le-leb a b (omega (arith, f refl)))
+    go false false e f g = sym (lt-leb a b (lt-of-le-ne (ltb-false a b e) (λ (h : b ≡ a). false≢true (g (sym h)))))
+
+signed-le : (s : Bool) (a : ℕ) (t : Bool) (b : ℕ) → below s a t b || level s a t b ≡ leb (above s a + under t b) (above t b + under s a)
+signed-le false a false b = rw (add-zero, add-zero) (le-test a b (eqb a b) (eqb-true a b) (eq-eqb a b))
+signed-le false a true b = go (eqb a b) (eqb a 0) refl refl
+  where
+    go : (p q : Bool) → eqb a b ≡ p → eqb a 0 ≡ q → p && q ≡ leb (a + b) 0
+    go true true e k = sym (le-leb (a + b) 0 (omega (arith, eqb-true a b e, eqb-true a 0 k)))
+    go true false e k = sym (lt-leb (a + b) 0 (omega (arith, eqb-false a 0 k)))
+    go false q e k = sym (lt-leb (a + b) 0 (omega (arith, eqb-false a b e)))
+signed-le true a false b = go (ltb 0 (a + b)) refl ∙ sym (le-leb 0 (b + a) (omega arith))
+  where
+    go : (p : Bool) → ltb 0 (a + b) ≡ p → p || (eqb a b && eqb a 0) ≡ true
+    go true e = refl
+    go false e = rw (eq-eqb a b (omega (arith, ltb-false 0 (a + b) e)), eq-eqb a 0 (omega (arith, ltb-false 0 (a + b) e)))
+signed-le true a true b =
+    rw (zero-add, zero-add) (le-test b a (eqb a b) (λ (h : eqb a b ≡ true). sym (eqb-true a b h)) (λ (h : b ≡ a). eq-eqb a b (sym h)))
+
+-- x / e is a / c, so x · g over e · g is a · d over c · d
+cross : (x e a c g d : ℕ) → x * c ≡ a * e → x * g * (c * d) ≡ a * d * (e * g)
+cross x e a c g d h = mul-mul-mul-comm x g c d ∙ ap (λ (z : ℕ). z * (g * d)) h ∙ simp (mul-assoc, mul-comm, mul-left-comm)
+
+cross′ : (y g b d e c : ℕ) → y * d ≡ b * g → y * e * (c * d) ≡ b * c * (e * g)
+cross′ y g b d e c h = ap (λ (z : ℕ). y * e * z) (mul-comm c d) ∙ cross y g b d e c h ∙ ap (λ (z : ℕ). b * c * z) (mul-comm g e)
+
+sum-like : (f : Format) (s : Bool) (a b c : ℕ) → sum f s a s b c ≡ round f s (a + b) c
+unfolding sum
+sum-like f true a b c = refl
+sum-like f false a b c = refl
+
+module _ (s t : Bool) (a c b d : ℕ) (C : 0 < c) (D : 0 < d) where
+  pub lt-at : (x y : Float) → HasValue x s a c → HasValue y t b d → lt x y ≡ below s (a * d) t (b * c)
+  unfolding lt
+  lt-at (fin s' m e) (fin t' n g) v w =
+      sym (below-scale s' (m * up e * down g) t' (n * up g * down e) (c * d) (mul-pos C D))
+      ∙ rw (v .0, w .0, cross (m * up e) (down e) a c (down g) d (v .1), cross′ (n * up g) (down g) b d (down e) c (w .1))
+      (below-scale s (a * d) t (b * c) (down e * down g) (mul-pos (down-pos e) (down-pos g)))
+
+  pub eq-at : (x y : Float) → HasValue x s a c → HasValue y t b d → eq x y ≡ level s (a * d) t (b * c)
+  unfolding eq
+  eq-at (fin s' m e) (fin t' n g) v w =
+      sym (level-scale s' (m * up e * down g) t' (n * up g * down e) (c * d) (mul-pos C D))
+      ∙ rw (v .0, w .0, cross (m * up e) (down e) a c (down g) d (v .1), cross′ (n * up g) (down g) b d (down e) c (w .1))
+      (level-scale s (a * d) t (b * c) (down e * down g) (mul-pos (down-pos e) (down-pos g)))
+
+  pub le-at : (x y : Float) → HasValue x s a c → HasValue y t b d
+      → le x y ≡ leb (above s (a * d) + under t (b * c)) (above t (b * c) + under s (a * d))
+  unfolding le
+  le-at x y v w = ap₂ _||_ (lt-at x y v w) (eq-at x y v w) ∙ signed-le s (a * d) t (b * c)
+
+  quotient : (x e y g : ℕ) → x * c ≡ a * e → y * d ≡ b * g → x * g * (b * c) ≡ a * d * (y * e)
+  quotient x e y g h k =
+      let p : x * g * (b * c) ≡ x * c * (b * g) = simp (mul-assoc, mul-comm, mul-left-comm) in
+      p ∙ rw (h, ← k) (simp (mul-assoc, mul-comm, mul-left-comm))
+
+  pub div-at : (f : Format) (x y : Float) → 0 < b → HasValue x s a c → HasValue y t b d → div f x y ≡ round f (unlike s t) (a * d) (b * c)
+  unfolding div
+  div-at f (fin s' m e) (fin t' zero g) B v w = absurd (lt-irrefl 0 (rw (← (w .1), zero-mul, zero-mul) at (mul-pos B (down-pos g))))
+  div-at f (fin s' m e) (fin t' (suc n) g) B v w =
+      rw (eqb·suc-zero n, v .0, w .0)
+      (round-same f (unlike s t) (m * up e * down g) (suc n * up g * down e) (a * d) (b * c)
+      (mul-pos (mul-pos (zero-lt-suc n) (up-pos g)) (down-pos e)) (mul-pos B C) (quotient (m * up e) (down e) (suc n * up g) (down g) (v .1) (w .1)))
+
+-- two of one sign
+pub add-at : (f : Format) (x y : Float) (s : Bool) (a c b d : ℕ) → 0 < c → 0 < d → HasValue x s a c → HasValue y s b d
+    → add f x y ≡ round f s (a * d + b * c) (c * d)
+unfolding add
+add-at f (fin s' m e) (fin t' n g) s a c b d C D v w =
+    rw (v .0, w .0, sum-like f s (m * up e * down g) (n * up g * down e) (down e * down g))
+    (round-same f s (m * up e * down g + n * up g * down e) (down e * down g) (a * d + b * c) (c * d) (mul-pos (down-pos e) (down-pos g)) (mul-pos C D)
+    (rw (add-mul, add-mul, cross (m * up e) (down e) a c (down g) d (v .1), cross′ (n * up g) (down g) b d (down e) c (w .1))))
+
+-- ---- over one denominator, of values that are not negative
+
+pub add-values : (f : Format) (x y : Float) (a b c : ℕ) → 0 < c → HasValue x false a c → HasValue y false b c → add f x y ≡ round f false (a + b) c
+add-values f x y a b c C v w =
+    add-at f x y false a c b c C C v w
+    ∙ round-same f false (a * c + b * c) (c * c) (a + b) c (mul-pos C C) C (ap (λ (z : ℕ). z * c) (sym (add-mul a b c)) ∙ mul-assoc (a + b) c c)
+
+-- the difference of ±a and a b that is no larger
+pick : (f : Format) (a b c : ℕ) → b ≤ a → sum f false a true b c ≡ round f false (a - b) c
+unfolding sum
+pick f a b c h = go (ltb a b) (ltb→lt a b)
+  where
+    go : (t : Bool) → (T t → a < b) → cond t (round f true (b - a) c) (round f false (a - b) c) ≡ round f false (a - b) c
+    go true k = absurd (not-le-of-lt (k tt) h)
+    go false k = refl
+
+sub-mul : (a b c : ℕ) → (a - b) * c ≡ a * c - b * c
+sub-mul a b c = mul-comm (a - b) c ∙ mul-sub c a b ∙ ap (λ (z : ℕ). z - c * b) (mul-comm c a) ∙ ap (λ (z : ℕ). a * c - z) (mul-comm c b)
+
+pub sub-values : (f : Format) (x y : Float) (a b c : ℕ) → 0 < c → b ≤ a → HasValue x false a c → HasValue y false b c → sub f x y ≡ round f false (a - b) c
+unfolding sub add neg
+sub-values f (fin s m e) (fin t n g) a b c C h v w =
+    let A = m * up e * down g in
+    let B = n * up g * down e in
+    let D = down e * down g in
+    let p : A * (c * c) ≡ a * c * D = cross (m * up e) (down e) a c (down g) c (v .1) in
+    let q : B * (c * c) ≡ b * c * D = cross′ (n * up g) (down g) b c (down e) c (w .1) in
+    let l : B ≤ A =
+    le-of-mul-le-mul-right (le-trans (le-of-eq q) (le-trans (mul-le-mul-right D (mul-le-mul-right c h)) (le-of-eq (sym p)))) (mul-pos C C) in
+    ap₂ (λ (i j : Bool). sum f i A (not j) B D) (v .0) (w .0)
+    ∙ pick f A B D l
+    ∙ round-same f false (A - B) D ((a - b) * c) (c * c) (mul-pos (down-pos e) (down-pos g)) (mul-pos C C)
+    (sub-mul A B (c * c) ∙ ap₂ _-_ p q ∙ sym (sub-mul (a * c) (b * c) D) ∙ ap (λ (z : ℕ). z * D) (sym (sub-mul a b c)))
+    ∙ round-same f false ((a - b) * c) (c * c) (a - b) c (mul-pos C C) C (mul-assoc (a - b) c c)
+
+-- ---- the negative turns the order round
+pub neg-neg : (x : Float) → neg (neg x) ≡ x
+unfolding neg
+neg-neg nan = refl
+neg-neg (inf true) = refl
+neg-neg (inf false) = refl
+neg-neg (fin true m e) = refl
+neg-neg (fin false m e) = refl
+
+pub neg-value : (x : Float) (s : Bool) (a c : ℕ) → HasValue x s a c → HasValue (neg x) (not s) a c
+unfolding neg
+neg-value (fin u m e) s a c v = (ap not (v .0), v .1)
+
+turned : (s t : Bool) (x y : ℕ)
+    → leb (above (not s) x + under (not t) y) (above (not t) y + under (not s) x) ≡ leb (above t y + under s x) (above s x + under t y)
+turned true true x y = ap₂ leb (add-comm x 0) (add-comm y 0)
+turned true false x y = ap₂ leb (add-comm x y) refl
+turned false true x y = ap₂ leb refl (add-comm y x)
+turned false false x y = ap₂ leb (add-comm 0 y) (add-comm 0 x)
+
+pub neg-le : (s t : Bool) (a c b d : ℕ) → 0 < c → 0 < d → (x y : Float) → HasValue x s a c → HasValue y t b d → le (neg x) (neg y) ≡ le y x
+neg-le s t a c b d C D x y v w =
+    le-at (not s) (not t) a c b d C D (neg x) (neg y) (neg-value x s a c v) (neg-value y t b d w)
+    ∙ turned s t (a * d) (b * c)
+    ∙ sym (le-at t s b d a c D C y x w v)
+
+-- ---- the sign goes through rounding
+neg-units : (f : Format) (s : Bool) (q k : ℕ) → neg (units f s q k) ≡ units f (not s) q k
+unfolding neg units odd
+neg-units f s q k = go (ltb (q * 2 ^ k) (2 ^ (low f + suc (emax f)))) q
+  where
+    go : (b : Bool) (q : ℕ) → neg (cond b (odd (suc (prec f)) s q k (low f)) (inf s)) ≡ cond b (odd (suc (prec f)) (not s) q k (low f)) (inf (not s))
+    go true zero = refl
+    go true (suc q) = refl
+    go false q = refl
+
+pub neg-round : (f : Format) (s : Bool) (n d : ℕ) → neg (round f s n d) ≡ round f (not s) n d
+neg-round f s n d = rw (round-is f s n d, round-is f (not s) n d) (neg-units f s _ _)

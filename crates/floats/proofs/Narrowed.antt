@@ -1,0 +1,235 @@
+-- What `narrow` works out, as floats: below the end of f32 the sum of the magnitude and the power of two, less that power, is the
+-- magnitude converted; from there on an infinity is; and the sign goes on last. Assumes nothing.
+use mathlib.Core.Path.{_≡_, refl, sym, ap, _∙_, subst}
+use mathlib.Core.Logic.{_⊎_, inl, inr}
+use Prim.Native.Nat.{ℕ, zero, suc, _+_, _-_, _*_, _/_, _%_, _^_, _≤_, _<_, max, compare}
+use native.Mathlib.Nat.{le-trans, le-of-eq, le-of-lt, lt-of-lt-of-le, lt-of-le-of-lt, mul-one, mul-right-comm, mul-le-mul-left, mul-le-mul-right, mul-lt-mul-of-pos-left, mul-lt-mul-of-pos-right, le-of-mul-le-mul-right, lt-of-mul-lt-mul-right}
+use native.Mathlib.Omega.{arith}
+use mathlib.Core.Bool.{Bool, true, false, not, _&&_, _||_, cond, true≢false, false≢true}
+use lib.IntN.{ℤ, pos}
+use lib.Dec.{T, ltb, eqb, ltb→lt, nltb→le, eqb→eq, lit<, lit≤}
+use borrow.Author.Tests.{lt-ltb, le-ltb}
+use lib.Arith.{lt-of-le-ne}
+use lib.Pow.{pow-pos, pow-mono, pow-lt}
+use lib.Ieee.{Float, nan, inf, fin, Format, binary32, binary64, prec, emax, low, up, down, size, nearest, odd, units, round, neg, add, sub, le, lt, fits, isNan, ofBits, toBits}
+use lib.Ieee.Fits.{down-pos, eq→eqb, round-is, round-fits}
+use lib.Ieee.Exact.{HasValue}
+use lib.Ieee.Scale.{round-same}
+use Rattle.folds.proofs.Tests.{lt-or-ge}
+use Rattle.floats.specs.Convert.{converted}
+use Rattle.floats.specs.Least.{greater}
+use Rattle.floats.specs.TotalOrder.{negative}
+use Rattle.floats.proofs.Values.{unitsOf, fitting, units-value}
+use Rattle.floats.proofs.Fractions.{lt-at, neg-round}
+use Rattle.floats.proofs.Narrowing.{end, rounded, in-range, out-of-range, place-of}
+use Rattle.floats.proofs.Fields.{absolute, exponent, power}
+
+-- ---- the end of f32, 2 ^ 128 - 2 ^ 103
+
+abbrev pub limit : Float
+limit = ofBits binary64 5183643170835005440
+
+limit-is : limit ≡ fin false 33554431 (pos 103)
+unfolding ofBits
+limit-is = refl
+
+-- the comparison, as one of whole numbers
+cross : (m : ℕ) (e : ℤ) → le limit (fin false m e) ≡ (ltb (33554431 * 2 ^ 103 * down e) (m * up e * 1) || (eqb (33554431 * 2 ^ 103 * down e) (m * up e * 1) && true))
+unfolding le
+cross m e = ap (λ (x : Float). le x (fin false m e)) limit-is
+
+at-least : (a b : ℕ) → (ltb a b || (eqb a b && true)) ≡ true → a ≤ b
+at-least a b = go (ltb a b) (eqb a b) (ltb→lt a b) (eqb→eq a b)
+  where
+    go : (s t : Bool) → (T s → a < b) → (T t → a ≡ b) → (s || (t && true)) ≡ true → a ≤ b
+    go true t h k e = le-of-lt (h tt)
+    go false true h k e = le-of-eq (k tt)
+    go false false h k e = absurd (false≢true e)
+
+less : (a b : ℕ) → (ltb a b || (eqb a b && true)) ≡ false → b < a
+less a b = go (ltb a b) (eqb a b) (nltb→le a b) (λ (p : a ≡ b). eq→eqb p)
+  where
+    go : (s t : Bool) → (T (not s) → b ≤ a) → (a ≡ b → T t) → (s || (t && true)) ≡ false → b < a
+    go true t h k e = absurd (true≢false e)
+    go false true h k e = absurd (true≢false e)
+    go false false h k e = lt-of-le-ne (h tt) (λ (p : b ≡ a). k (sym p))
+
+module _ (s : Bool) (m : ℕ) (e : ℤ) (h : T (fits binary64 (fin s m e))) where
+  N : ℕ
+  N = unitsOf binary64 m e
+
+  in-full : m * up e * 2 ^ 1074 ≡ unitsOf binary64 m e * down e
+  in-full = units-value binary64 s m e (fitting binary64 s m e h) .1
+
+  scaled : 33554431 * 2 ^ 103 * down e * 2 ^ 1074 ≡ end * down e
+  scaled = mul-right-comm (33554431 * 2 ^ 103) (down e) (2 ^ 1074)
+
+  full : m * up e * 1 * 2 ^ 1074 ≡ unitsOf binary64 m e * down e
+  full = ap (λ (x : ℕ). x * 2 ^ 1074) (mul-one (m * up e)) ∙ in-full
+
+  reaches : le limit (fin false m e) ≡ true → end ≤ unitsOf binary64 m e
+  reaches t =
+      le-of-mul-le-mul-right
+      (le-trans (le-of-eq (sym scaled)) (le-trans (mul-le-mul-right (2 ^ 1074) (at-least (33554431 * 2 ^ 103 * down e) (m * up e * 1) (sym (cross m e) ∙ t))) (le-of-eq full)))
+      (down-pos e)
+
+  stays : le limit (fin false m e) ≡ false → unitsOf binary64 m e < end
+  stays t =
+      lt-of-mul-lt-mul-right (down e)
+      (lt-of-le-of-lt (le-of-eq (sym full)) (lt-of-lt-of-le (mul-lt-mul-of-pos-right (less (33554431 * 2 ^ 103 * down e) (m * up e * 1) (sym (cross m e) ∙ t)) (pow-pos 1074)) (le-of-eq scaled)))
+
+  -- the magnitude converted is its units rounded
+  by-units : round binary32 false (m * up e) (down e) ≡ round binary32 false (unitsOf binary64 m e) (2 ^ 1074)
+  by-units = round-same binary32 false (m * up e) (down e) (unitsOf binary64 m e) (2 ^ 1074) (down-pos e) (pow-pos 1074) in-full
+
+-- ---- what `nearest_f32` returns, of a magnitude
+
+pub infinite : (x : Float) → T (fits binary64 x) → negative x ≡ false → le limit x ≡ true → converted binary32 x ≡ inf false
+unfolding converted le ofBits
+infinite nan h p t = absurd (false≢true t)
+infinite (inf s) h p t = ap inf p
+infinite (fin true m e) h p t = absurd (true≢false p)
+infinite (fin false m e) h p t = by-units false m e h ∙ out-of-range (unitsOf binary64 m e) (reaches false m e h t)
+
+-- the power of two that is added, from an exponent field
+abbrev pub unitAt : ℕ → Float
+unitAt n = ofBits binary64 ((n + 29) * 4503599627370496)
+
+unit-value : (n : ℕ) → n ≤ 1150 → HasValue (unitAt n) false (4503599627370496 * 2 ^ (n + 28)) (2 ^ 1074)
+unit-value n h =
+    subst (λ (k : ℕ). HasValue (ofBits binary64 (k * 4503599627370496)) false (4503599627370496 * 2 ^ (n + 28)) (2 ^ 1074)) shift (power (n + 28) (small h))
+  where
+    shift : suc (n + 28) ≡ n + 29
+    shift = omega arith
+
+    small : n ≤ 1150 → suc (n + 28) < 2047
+    small g = omega arith
+
+-- of two such powers the greater has the greater field
+pub greater-unit : (n : ℕ) → n ≤ 1150 → greater (unitAt 897) (unitAt n) ≡ unitAt (max 897 n)
+unfolding greater ofBits
+greater-unit n h = ap (λ (t : Bool). cond t (unitAt n) (unitAt 897)) by-field ∙ pick (lt-or-ge 897 n)
+  where
+    by-field : lt (unitAt 897) (unitAt n) ≡ ltb (4503599627370496 * 2 ^ 925 * 2 ^ 1074) (4503599627370496 * 2 ^ (n + 28) * 2 ^ 1074)
+    by-field =
+        lt-at false false (4503599627370496 * 2 ^ 925) (2 ^ 1074) (4503599627370496 * 2 ^ (n + 28)) (2 ^ 1074) (pow-pos 1074) (pow-pos 1074)
+        (unitAt 897) (unitAt n) (unit-value 897 (lit≤ tt)) (unit-value n h)
+
+    more : 897 < n → 925 < n + 28
+    more g = omega arith
+
+    no-more : n ≤ 897 → n + 28 ≤ 925
+    no-more g = omega arith
+
+    is-n : 897 < n → n ≡ max 897 n
+    is-n g = omega arith
+
+    is-least : n ≤ 897 → 897 ≡ max 897 n
+    is-least g = omega arith
+
+    pick : (897 < n) ⊎ (n ≤ 897) → cond (ltb (4503599627370496 * 2 ^ 925 * 2 ^ 1074) (4503599627370496 * 2 ^ (n + 28) * 2 ^ 1074)) (unitAt n) (unitAt 897) ≡ unitAt (max 897 n)
+    pick (inl g) =
+        ap (λ (t : Bool). cond t (unitAt n) (unitAt 897))
+        (lt-ltb (4503599627370496 * 2 ^ 925 * 2 ^ 1074) (4503599627370496 * 2 ^ (n + 28) * 2 ^ 1074)
+        (mul-lt-mul-of-pos-right (mul-lt-mul-of-pos-left (pow-lt (more g)) (lit< tt)) (pow-pos 1074)))
+        ∙ ap unitAt (is-n g)
+    pick (inr g) =
+        ap (λ (t : Bool). cond t (unitAt n) (unitAt 897))
+        (le-ltb (4503599627370496 * 2 ^ 925 * 2 ^ 1074) (4503599627370496 * 2 ^ (n + 28) * 2 ^ 1074)
+        (mul-le-mul-right (2 ^ 1074) (mul-le-mul-left 4503599627370496 (pow-mono (no-more g)))))
+        ∙ ap unitAt (is-least g)
+
+held : (z : ℕ) → max 897 (z - 52) ≡ 897 + (z - 949)
+held z = omega arith
+
+-- below the end the exponent field is small
+pub field-lt : (x : Float) → T (fits binary64 x) → T (not (isNan x)) → negative x ≡ false → le limit x ≡ false → toBits binary64 x / 4503599627370496 ≤ 1150
+unfolding le isNan ofBits
+field-lt nan h k p t = absurd k
+field-lt (inf true) h k p t = absurd (true≢false p)
+field-lt (inf false) h k p t = absurd (true≢false t)
+field-lt (fin true m e) h k p t = absurd (true≢false p)
+field-lt (fin false m e) h k p t =
+    let N = unitsOf binary64 m e in
+    subst (λ (z : ℕ). z ≤ 1150) (sym (exponent m e)) (small (size N) (place-of N (stays false m e h t) .most))
+  where
+    small : (z : ℕ) → z - 949 ≤ 253 → z - 52 ≤ 1150
+    small z b = omega arith
+
+pub summed : (x w : Float) → T (fits binary64 x) → T (not (isNan x)) → negative x ≡ false → le limit x ≡ false → w ≡ unitAt (max 897 (toBits binary64 x / 4503599627370496))
+    → sub binary64 (add binary64 x w) w ≡ converted binary32 x
+unfolding converted le isNan ofBits
+summed nan w h k p t q = absurd k
+summed (inf true) w h k p t q = absurd (true≢false p)
+summed (inf false) w h k p t q = absurd (true≢false t)
+summed (fin true m e) w h k p t q = absurd (true≢false p)
+summed (fin false m e) w h k p t q =
+    let N = unitsOf binary64 m e in
+    let i = size N - 949 in
+    let place = place-of N (stays false m e h t) in
+    let w-is : w ≡ unitAt (897 + i) = q ∙ ap (λ (z : ℕ). unitAt (max 897 z)) (exponent m e) ∙ ap unitAt (held (size N)) in
+    ap (λ (y : Float). sub binary64 (add binary64 (fin false m e) y) y) w-is
+    ∙ rounded N i place (fin false m e) (unitAt (897 + i)) (units-value binary64 false m e (fitting binary64 false m e h))
+    (subst (λ (j : ℕ). HasValue (unitAt (897 + i)) false (4503599627370496 * 2 ^ j) (2 ^ 1074)) (shift i) (unit-value (897 + i) (small i (place .most))))
+    (in-range N i place (stays false m e h t))
+    ∙ sym (by-units false m e h)
+  where
+    shift : (i : ℕ) → 897 + i + 28 ≡ 925 + i
+    shift i = omega arith
+
+    small : (i : ℕ) → i ≤ 253 → 897 + i ≤ 1150
+    small i g = omega arith
+
+-- ---- and the sign goes on last
+
+pub resigned : (x : Float) → cond (negative x) (neg (converted binary32 (absolute x))) (converted binary32 (absolute x)) ≡ converted binary32 x
+unfolding converted neg
+resigned nan = refl
+resigned (inf true) = refl
+resigned (inf false) = refl
+resigned (fin true m e) = neg-round binary32 false (m * up e) (down e)
+resigned (fin false m e) = refl
+
+pub converted-fits : (f : Format) (x : Float) → T (fits f (converted f x))
+unfolding converted fits
+converted-fits f nan = tt
+converted-fits f (inf s) = tt
+converted-fits f (fin s m e) = round-fits f s (m * up e) (down e)
+
+units-not-nan : (f : Format) (s : Bool) (q k : ℕ) → T (not (isNan (units f s q k)))
+unfolding units odd isNan
+units-not-nan f s q k = go (ltb (q * 2 ^ k) (2 ^ (low f + suc (emax f)))) q
+  where
+    go : (b : Bool) (n : ℕ) → T (not (isNan (cond b (odd (suc (prec f)) s n k (low f)) (inf s))))
+    go true zero = tt
+    go true (suc n) = tt
+    go false n = tt
+
+pub converted-not-nan : (f : Format) (x : Float) → T (not (isNan x)) → T (not (isNan (converted f x)))
+unfolding converted isNan
+converted-not-nan f nan h = h
+converted-not-nan f (inf s) h = tt
+converted-not-nan f (fin s m e) h =
+    let n = m * up e * 2 ^ low f in
+    let k = size (n / down e) - prec f in
+    let u = down e * 2 ^ k in
+    subst (λ (y : Float). T (not (isNan y))) (sym (round-is f s (m * up e) (down e))) (units-not-nan f s (nearest (n / u) (compare (n % u * 2) u)) k)
+
+units-plus : (f : Format) (q k : ℕ) → negative (units f false q k) ≡ false
+unfolding units odd
+units-plus f q k = go (ltb (q * 2 ^ k) (2 ^ (low f + suc (emax f)))) q
+  where
+    go : (b : Bool) (n : ℕ) → negative (cond b (odd (suc (prec f)) false n k (low f)) (inf false)) ≡ false
+    go true zero = refl
+    go true (suc n) = refl
+    go false n = refl
+
+pub converted-plus : (f : Format) (x : Float) → negative (converted f (absolute x)) ≡ false
+unfolding converted
+converted-plus f nan = refl
+converted-plus f (inf s) = refl
+converted-plus f (fin s m e) =
+    let n = m * up e * 2 ^ low f in
+    let k = size (n / down e) - prec f in
+    let u = down e * 2 ^ k in
+    ap negative (round-is f false (m * up e) (down e)) ∙ units-plus f (nearest (n / u) (compare (n % u * 2) u)) k

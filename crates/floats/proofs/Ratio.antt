@@ -1,0 +1,146 @@
+-- Ratios of two counts, as f32. Counts up to 2^24 are f32 exactly, so their ratio is one rounding of the true ratio, and rounding
+-- keeps the order: whether a ratio d/t is at most the f32 nearest to 1/k is then the question of whole numbers whether k·d ≤ t.
+use mathlib.Core.Path.{_≡_, refl, _∙_}
+use mathlib.Core.Bool.{Bool, true, false, _||_}
+use Prim.Native.Nat.{ℕ, zero, suc, _+_, _-_, _*_, _^_, _≤_, _<_}
+use native.Mathlib.Nat.{mul-one, mul-comm, mul-assoc, mul-left-comm, mul-pos, zero-lt-suc}
+use native.Mathlib.Omega.{arith}
+use borrow.Author.Tests.{leb-true, leb-false, lt-leb, ne-eqb}
+use lib.IntN.{pos}
+use lib.Dec.{T, leb, lit≤, ltb→lt, not-T}
+use lib.Ieee.{Float, nan, inf, fin, binary32, up, down, round, ofInt, ofBits, add, div, lt, le, eq}
+use lib.Ieee.Bits.{is-true, is-false}
+use lib.Ieee.Exact.{HasValue}
+use lib.Ieee.Back.{round-whole}
+use lib.Ieee.Order.{round-mono}
+use lib.Ieee.Positive.{positive, above, positive-of-value, above-of-le, between, le→cross, le-trans-positive}
+use Rattle.floats.specs.Ratio.{oneIn}
+use Rattle.floats.proofs.Fractions.{div-at, add-at}
+
+pub one-in-100 : oneIn 100 ≡ ofBits binary32 0x3C23D70A
+unfolding oneIn round ofBits
+one-in-100 = refl
+
+pub one-in-20 : oneIn 20 ≡ ofBits binary32 0x3D4CCCCD
+unfolding oneIn round ofBits
+one-in-20 = refl
+
+pub one-is-one : oneIn 1 ≡ ofBits binary32 0x3F800000
+unfolding oneIn round ofBits
+one-is-one = refl
+
+-- a count up to 2^24 is an f32 exactly
+pub count-value : (n : ℕ) → n ≤ 2 ^ 24 → HasValue (ofInt binary32 (pos n)) false n 1
+unfolding ofInt
+count-value n h = round-whole binary32 false n h
+
+-- the ratio of two counts up to 2^24 is one rounding
+pub ratio : (d t : ℕ) → d ≤ 2 ^ 24 → 0 < t → t ≤ 2 ^ 24 → div binary32 (ofInt binary32 (pos d)) (ofInt binary32 (pos t)) ≡ round binary32 false d t
+ratio d t h p k =
+    div-at false false d 1 t 1 (lit≤ tt) (lit≤ tt) binary32 (ofInt binary32 (pos d)) (ofInt binary32 (pos t)) p (count-value d h) (count-value t k)
+    ∙ rw (mul-one d, mul-one t)
+
+-- a ratio to a count of none
+pub ratio-none : (d : ℕ) → 0 < d → d ≤ 2 ^ 24 → div binary32 (ofInt binary32 (pos d)) (ofInt binary32 (pos 0)) ≡ inf false
+unfolding ofInt div
+ratio-none d p h = over-zero (ofInt binary32 (pos d)) (positive-of-value (ofInt binary32 (pos d)) d 1 (count-value d h) p)
+  where
+    over-zero : (x : Float) → T (positive x) → div binary32 x (fin false 0 (pos 0)) ≡ inf false
+    over-zero (fin false m e) h = rw (ne-eqb m 0 (λ (z : m ≡ 0). omega (arith, ltb→lt 0 m h)))
+
+-- Rust counts by adding 1.0 in f32
+pub count-next : (n : ℕ) → n < 2 ^ 24 → add binary32 (ofInt binary32 (pos n)) (ofBits binary32 0x3F800000) ≡ ofInt binary32 (pos (n + 1))
+unfolding ofInt ofBits
+count-next n h =
+    add-at binary32 (ofInt binary32 (pos n)) (fin false 1 (pos 0)) false n 1 1 1 (lit≤ tt) (lit≤ tt) (count-value n (omega arith)) (refl, refl)
+    ∙ rw (mul-one n)
+
+-- a larger ratio rounds to no smaller float
+pub ratio-mono : (d t c u : ℕ) → 0 < t → 0 < u → d * u ≤ c * t → T (le (round binary32 false d t) (round binary32 false c u))
+ratio-mono = round-mono binary32
+
+-- finite and above zero
+pub ratio-positive : (d t : ℕ) → 0 < d → d ≤ 2 ^ 24 → 0 < t → t ≤ 2 ^ 24
+    → T (positive (div binary32 (ofInt binary32 (pos d)) (ofInt binary32 (pos t))))
+ratio-positive d t p h q k =
+    rw (ratio d t h q k)
+    (between (round binary32 false 1 (2 ^ 24)) (round binary32 false d t) (round binary32 false (2 ^ 24) 1) (unfold round in tt) (unfold round in tt)
+    (round-mono binary32 1 (2 ^ 24) d t (lit≤ tt) q (omega arith)) (round-mono binary32 d t (2 ^ 24) 1 q (lit≤ tt) (omega arith)))
+
+-- ---- a ratio against one in k
+
+inf-lt : (y : Float) → lt (inf false) y ≡ false
+unfolding lt
+inf-lt nan = refl
+inf-lt (inf t) = refl
+inf-lt (fin t n d) = refl
+
+inf-le : (x y : Float) → T (lt x y) → le (inf false) x ≡ false
+unfolding le
+inf-le nan y h = refl
+inf-le (inf true) y h = refl
+inf-le (inf false) y h = absurd (rw (inf-lt y) at h)
+inf-le (fin s m e) y h = refl
+
+above-lt : (x y : Float) → T (above x) → T (lt x y) → T (positive x)
+above-lt (inf false) y p h = absurd (rw (inf-lt y) at h)
+above-lt (fin false m e) y p h = p
+
+lt-le : (x y : Float) → T (lt x y) → T (le x y)
+unfolding le
+lt-le x y h = go (lt x y) h
+  where
+    go : (b : Bool) → T b → T (b || eq x y)
+    go true h = tt
+
+lt-clash : (x y : Float) → T (positive x) → T (positive y) → T (lt x y) → T (le y x) → ⊥
+unfolding lt
+lt-clash (fin false m e) (fin false n d) p q h k =
+    omega (arith, ltb→lt (m * up e * down d) (n * up d * down e) h, le→cross (fin false n d) (fin false m e) q p k)
+
+-- a float z from y on is not at most an x below y
+beyond : (x y z : Float) → T (positive z) → T (lt x y) → T (le y z) → T (le z x) → ⊥
+beyond x y z r h k l =
+    let p : T (positive x) = above-lt x y (above-of-le z x r l) h in
+    let q : T (positive y) = between x y z p r (lt-le x y h) k in
+    lt-clash x y p q h (le-trans-positive y z x q r p k l)
+
+-- The next ratio above 1/k that two counts below 2^24 can have is 2^24 / (k·(2^24 − 1)) or more: the format tells it from 1/k.
+abbrev pub Sharp : ℕ → Type 0
+Sharp k = T (lt (oneIn k) (round binary32 false (2 ^ 24) (k * (2 ^ 24 - 1))))
+
+pub sharp-100 : Sharp 100
+unfolding oneIn round lt
+sharp-100 = tt
+
+pub sharp-20 : Sharp 20
+unfolding oneIn round lt
+sharp-20 = tt
+
+oneIn-is : (k : ℕ) → oneIn k ≡ round binary32 false 1 k
+unfolding oneIn
+oneIn-is k = refl
+
+-- a ratio of counts is at most the f32 nearest to 1/k where k·d ≤ t, and only there; a t of 0 included
+pub ratio-at-most : (k : ℕ) → 0 < k → Sharp k → (d t : ℕ) → 0 < d → d ≤ 2 ^ 24 → t < 2 ^ 24
+    → le (div binary32 (ofInt binary32 (pos d)) (ofInt binary32 (pos t))) (oneIn k) ≡ leb (k * d) t
+ratio-at-most k K sharp d zero p h q =
+    rw (ratio-none d p h, lt-leb (k * d) 0 (mul-pos K p)) (inf-le (oneIn k) (round binary32 false (2 ^ 24) (k * (2 ^ 24 - 1))) sharp)
+ratio-at-most k K sharp d (suc t) p h q = go (leb (k * d) (suc t)) refl
+  where
+    r : Float
+    r = div binary32 (ofInt binary32 (pos d)) (ofInt binary32 (pos (suc t)))
+
+    is : r ≡ round binary32 false d (suc t)
+    is = ratio d (suc t) h (zero-lt-suc t) (omega arith)
+
+    go : (b : Bool) → leb (k * d) (suc t) ≡ b → le r (oneIn k) ≡ b
+    go true e =
+        is-true (le r (oneIn k))
+        (rw (is, oneIn-is) (round-mono binary32 d (suc t) 1 k (zero-lt-suc t) K (omega (arith, leb-true (k * d) (suc t) e, mul-comm k d))))
+    go false e =
+        let w : d * (k * (2 ^ 24 - 1)) ≡ k * d * (2 ^ 24 - 1) = simp (mul-assoc, mul-left-comm) in
+        is-false (le r (oneIn k)) (not-T (le r (oneIn k))
+        (beyond (oneIn k) (round binary32 false (2 ^ 24) (k * (2 ^ 24 - 1))) r (ratio-positive d (suc t) p h (zero-lt-suc t) (omega arith)) sharp
+        (rw is (round-mono binary32 (2 ^ 24) (k * (2 ^ 24 - 1)) d (suc t) (mul-pos K (lit≤ tt)) (zero-lt-suc t)
+        (omega (arith, leb-false (k * d) (suc t) e))))))

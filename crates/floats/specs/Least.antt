@@ -1,0 +1,18 @@
+-- The lesser and the greater of two floats. Document 01, module 1: "f32 and f64 min and max that ignore a NaN", and "When both
+-- zeros meet in min or max, the port keeps the accumulated one": the first argument.
+use mathlib.Core.Bool.{Bool, cond}
+use lib.Ieee.{Float, nan, inf, fin, lt}
+
+-- the other where one is a NaN; the second where it is less; and the first
+unfoldable pub lesser : Float → Float → Float
+unfolding lt
+lesser nan b = b
+lesser (inf s) b = cond (lt b (inf s)) b (inf s)
+lesser (fin s m e) b = cond (lt b (fin s m e)) b (fin s m e)
+
+-- the other where one is a NaN; the second where it is greater; and the first
+unfoldable pub greater : Float → Float → Float
+unfolding lt
+greater nan b = b
+greater (inf s) b = cond (lt (inf s) b) b (inf s)
+greater (fin s m e) b = cond (lt (fin s m e) b) b (fin s m e)

@@ -1,0 +1,5 @@
+pub mod Convert
+pub mod Whole
+pub mod Least
+pub mod TotalOrder
+pub mod Ratio

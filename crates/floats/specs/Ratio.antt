@@ -1,0 +1,9 @@
+-- The rates that a q-value is held against. Document 01: "The 0.01 and 0.05 that a q-value is held against are the nearest f32,
+-- bits 3C23D70A and 3D4CCCCD." The theorems `one-in-100` and `one-in-20` say that these are the bits of one in 100 and one in 20.
+use Prim.Native.Nat.{ℕ}
+use mathlib.Core.Bool.{false}
+use lib.Ieee.{Float, binary32, round}
+
+-- the f32 nearest to one in k
+unfoldable pub oneIn : ℕ → Float
+oneIn k = round binary32 false 1 k

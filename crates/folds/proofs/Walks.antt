@@ -1,0 +1,146 @@
+-- The invariants of loops that walk a range, as records whose parameters are inferred: what is left to do of the walk, from the state at
+-- hand, gives what the whole walk gives. A loop opens with `start`, takes a turn by `step`, and ends by `done`. Assumes nothing.
+use mathlib.Core.Path.{_≡_, refl, sym, ap, _∙_, subst}
+use mathlib.Core.Logic.{_⊎_, inl, inr}
+use Prim.Native.Nat.{ℕ, zero, suc, _+_, _-_, _≤_, _<_}
+use native.Mathlib.Nat.{le-refl}
+use native.Mathlib.Numerals.{add-one}
+use native.Mathlib.Omega.{arith}
+use mathlib.Core.Bool.{Bool, true, false, cond}
+use lib.Dec.{T}
+use lib.Ieee.Fits.{and-i, and-l, and-r}
+use Rattle.folds.proofs.Tests.{lt-or-ge}
+use Rattle.folds.specs.Walks.{steps, across, down, first, seek, every}
+
+none-left : (j n : ℕ) → n ≤ j → n - j ≡ 0
+none-left j n h = omega arith
+
+one-less : (j n : ℕ) → j < n → n - j ≡ suc (n - suc j)
+one-less j n h = omega arith
+
+-- ---- upwards
+
+pub record Walk {S : Type 0} (f : ℕ → S → S) (a j n : ℕ) (s₀ s : S) : Type 0 where
+  pub low : a ≤ j
+  pub high : j ≤ n
+  pub is : across f j n s ≡ across f a n s₀
+
+module _ {S : Type 0} (f : ℕ → S → S) where
+  steps-none : (a k : ℕ) (s : S) → k ≡ 0 → steps f a k s ≡ s
+  unfolding steps
+  steps-none a zero s e = refl
+  steps-none a (suc k) s e = absurd (no e)
+    where
+      no : suc k ≡ 0 → ⊥
+      no p = omega arith
+
+  steps-more : (a k l : ℕ) (s : S) → k ≡ suc l → steps f a k s ≡ steps f (suc a) l (f a s)
+  unfolding steps
+  steps-more a k l s e = ap (λ (x : ℕ). steps f a x s) e
+
+  pub across-step : (j n : ℕ) (s : S) → j < n → across f j n s ≡ across f (j + 1) n (f j s)
+  across-step j n s h = steps-more j (n - j) (n - suc j) s (one-less j n h) ∙ ap (λ (x : ℕ). steps f x (n - x) (f j s)) (sym (add-one j))
+
+  pub across-done : (j n : ℕ) (s : S) → n ≤ j → across f j n s ≡ s
+  across-done j n s h = steps-none j (n - j) s (none-left j n h)
+
+pub start : {S : Type 0} {f : ℕ → S → S} {a n : ℕ} {s : S} → a ≤ n → Walk f a a n s s
+start {a = a} h = record { low = le-refl a; high = h; is = refl }
+
+pub step : {S : Type 0} {f : ℕ → S → S} {a j n : ℕ} {s₀ s : S} → Walk f a j n s₀ s → j < n → Walk f a (j + 1) n s₀ (f j s)
+step {f = f} {j = j} {n = n} {s = s} w h =
+    let l = w .low in
+    record { low = omega arith; high = omega arith; is = sym (across-step f j n s h) ∙ w .is }
+
+-- a turn whose new state is f's by an equation
+pub step-by : {S : Type 0} {f : ℕ → S → S} {a j n : ℕ} {s₀ s t : S} → Walk f a j n s₀ s → j < n → t ≡ f j s → Walk f a (j + 1) n s₀ t
+step-by {S} {f} {a} {j} {n} {s₀} w h e = subst (λ (x : S). Walk f a (j + 1) n s₀ x) (sym e) (step w h)
+
+pub done : {S : Type 0} {f : ℕ → S → S} {a j n : ℕ} {s₀ s : S} → Walk f a j n s₀ s → n ≤ j → s ≡ across f a n s₀
+done {f = f} {j = j} {n = n} {s = s} w h = sym (across-done f j n s h) ∙ w .is
+
+-- ---- downwards
+
+pub record Fall {S : Type 0} (f : ℕ → S → S) (i n : ℕ) (s₀ s : S) : Type 0 where
+  pub high : i ≤ n
+  pub is : down f i s ≡ down f n s₀
+
+pub fall-start : {S : Type 0} {f : ℕ → S → S} {n : ℕ} {s : S} → Fall f n n s s
+fall-start {n = n} = record { high = le-refl n; is = refl }
+
+down-more : {S : Type 0} (f : ℕ → S → S) (j : ℕ) (s : S) → down f (suc j) s ≡ down f j (f j s)
+unfolding down
+down-more f j s = refl
+
+down-none : {S : Type 0} (f : ℕ → S → S) (s : S) → down f 0 s ≡ s
+unfolding down
+down-none f s = refl
+
+pub fall-step : {S : Type 0} {f : ℕ → S → S} {i n : ℕ} {s₀ s : S} (j : ℕ) → Fall f i n s₀ s → i ≡ j + 1 → Fall f j n s₀ (f j s)
+fall-step {f = f} {i = i} {s = s} j w e =
+    let l = w .high in
+    record { high = omega arith; is = sym (down-more f j s) ∙ ap (λ (x : ℕ). down f x s) (sym (e ∙ add-one j)) ∙ w .is }
+
+pub fall-done : {S : Type 0} {f : ℕ → S → S} {i n : ℕ} {s₀ s : S} → Fall f i n s₀ s → i ≡ 0 → s ≡ down f n s₀
+fall-done {f = f} {s = s} w e = sym (down-none f s) ∙ ap (λ (x : ℕ). down f x s) (sym e) ∙ w .is
+
+-- ---- a search
+
+pub record Sought (p : ℕ → Bool) (a j n : ℕ) : Type 0 where
+  pub low : a ≤ j
+  pub high : j ≤ n
+  pub is : seek p j n ≡ seek p a n
+
+first-more : (p : ℕ → Bool) (a k l : ℕ) → k ≡ suc l → first p a k ≡ cond (p a) a (first p (suc a) l)
+unfolding first
+first-more p a k l e = ap (first p a) e
+
+first-none : (p : ℕ → Bool) (a k : ℕ) → k ≡ 0 → first p a k ≡ a
+unfolding first
+first-none p a k e = ap (first p a) e
+
+pub sought-start : {p : ℕ → Bool} {a n : ℕ} → a ≤ n → Sought p a a n
+sought-start {a = a} h = record { low = le-refl a; high = h; is = refl }
+
+pub sought-step : {p : ℕ → Bool} {a j n : ℕ} → Sought p a j n → j < n → p j ≡ false → Sought p a (j + 1) n
+sought-step {p} {a} {j} {n} w h e =
+    let l = w .low in
+    record {
+      low = omega arith;
+      high = omega arith;
+      is = ap (λ (x : ℕ). first p x (n - x)) (add-one j)
+          ∙ sym (ap (λ (b : Bool). cond b j (first p (suc j) (n - suc j))) e)
+          ∙ sym (first-more p j (n - j) (n - suc j) (one-less j n h))
+          ∙ w .is;
+    }
+
+pub sought-found : {p : ℕ → Bool} {a j n : ℕ} → Sought p a j n → j < n → p j ≡ true → j ≡ seek p a n
+sought-found {p} {a} {j} {n} w h e =
+    sym (ap (λ (b : Bool). cond b j (first p (suc j) (n - suc j))) e)
+    ∙ sym (first-more p j (n - j) (n - suc j) (one-less j n h))
+    ∙ w .is
+
+pub sought-none : {p : ℕ → Bool} {a j n : ℕ} → Sought p a j n → n ≤ j → j ≡ seek p a n
+sought-none {p} {a} {j} {n} w h = sym (first-none p j (n - j) (none-left j n h)) ∙ w .is
+
+-- ---- all of them
+
+pub every-at : (p : ℕ → Bool) (n i : ℕ) → T (every p n) → i < n → T (p i)
+unfolding every
+every-at p zero i t h = absurd (none i h)
+  where
+    none : (i : ℕ) → i < 0 → ⊥
+    none i h = omega arith
+every-at p (suc n) i t h = go (every-at p n i (and-l (every p n) (p n) t)) (lt-or-ge i n)
+  where
+    last : n ≤ i → i < suc n → n ≡ i
+    last g k = omega arith
+
+    go : (i < n → T (p i)) → (i < n) ⊎ (n ≤ i) → T (p i)
+    go below (inl g) = below g
+    go below (inr g) = subst (λ (x : ℕ). T (p x)) (last g h) (and-r (every p n) (p n) t)
+
+pub every-of : (p : ℕ → Bool) (n : ℕ) → ((i : ℕ) → i < n → T (p i)) → T (every p n)
+unfolding every
+every-of p zero h = tt
+every-of p (suc n) h = and-i (every p n) (p n) (every-of p n (λ (i : ℕ) (g : i < n). h i (omega arith))) (h n (le-refl (suc n)))

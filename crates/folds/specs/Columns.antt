@@ -1,0 +1,8 @@
+-- Lent columns. Document 01: a refusal "fills each lent result column, at its own length, with NaN (floats) or 4,294,967,295 (32-bit whole
+-- numbers)", and working columns "hold 0 in every place afterwards".
+use mathlib.Core.List.{List}
+use lib.ListN.{length, replicate}
+
+-- the column with v in every place
+abbrev pub filled : {A : Type 0} → A → List A → List A
+filled v column = replicate (length column) v
