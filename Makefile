@@ -3,7 +3,8 @@ SHELL := /bin/bash
 .SHELLFLAGS := -euo pipefail -c
 .DEFAULT_GOAL := help
 
-COMPARE := RAYON_NUM_THREADS=1 cargo run --quiet --release --offline --manifest-path compare/Cargo.toml --
+# cargo reads compare/.cargo/config.toml only from there
+COMPARE := cd compare && cargo run --quiet --release --offline --
 
 .PHONY: help test lib compare bench prepare
 help: ## this list
@@ -18,3 +19,14 @@ lib: ## target/staticlib/libvayemuku.a, to link with include/vayemuku.h
 	@command -v rt >/dev/null || { echo "make: the Rattle toolchain's command rt is not on the PATH" >&2; exit 1; }
 	rt staticlib vayemuku
 	@echo "target/staticlib/libvayemuku.a, declared by include/vayemuku.h"
+
+prepare: ## what compare and bench need: Debian's packaged crates, and sage's unchanged files, checked, under target/sage
+	@command -v cargo >/dev/null || { echo "make: cargo is not on the PATH" >&2; exit 1; }
+	compare/prepare
+
+compare: lib prepare ## the port beside sage's unchanged Rust and Rust's own operators, by bits; fails on one mismatch
+	$(COMPARE) smoke
+	$(COMPARE) floats
+
+bench: lib prepare ## the port and the Rust timed in one driver, with ratios
+	$(COMPARE) bench floats

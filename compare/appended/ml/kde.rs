@@ -1,0 +1,11 @@
+impl Estimator {
+    /// The estimator of these fields.
+    pub fn from_parts(parts: Parts) -> Self {
+        Estimator { bins: parts.bins, min_score: parts.min_score, score_step: parts.score_step }
+    }
+
+    /// The private fields.
+    pub fn parts(&self) -> Parts {
+        Parts { bins: self.bins.clone(), min_score: self.min_score, score_step: self.score_step }
+    }
+}

@@ -1,0 +1,11 @@
+impl LinearDiscriminantAnalysis {
+    /// The fit that has these coefficients.
+    pub fn from_coefficients(coef: Vec<f64>) -> Self {
+        LinearDiscriminantAnalysis { coef }
+    }
+
+    /// The private coefficients.
+    pub fn coefficients(&self) -> &[f64] {
+        &self.coef
+    }
+}

@@ -1,0 +1,40 @@
+//! Compares sage's unchanged Rust with libvayemuku.a, and times both.
+
+mod bench;
+mod cases;
+mod floats;
+mod report;
+mod smoke;
+mod vayemuku;
+
+use std::process::ExitCode;
+
+const USAGE: &str = "usage: compare smoke
+       compare floats [--cases N] [--exhaustive]
+       compare bench floats";
+
+/// Runs the words of the command line; None where they mean nothing.
+fn run(words: &[&str]) -> Option<bool> {
+    match words {
+        ["smoke"] => Some(smoke::run()),
+        ["floats", options @ ..] => Some(floats::run(&cases::Plan::from_words(options)?)),
+        ["bench", "floats"] => Some(bench::floats::run()),
+        _ => None,
+    }
+}
+
+/// Ends with 0 where all is the same, 1 on a mismatch, 2 on words that mean nothing.
+fn main() -> ExitCode {
+    // With two threads the kernel sums of sage's kde.rs are not deterministic.
+    std::env::set_var("RAYON_NUM_THREADS", "1");
+    let words: Vec<String> = std::env::args().skip(1).collect();
+    let words: Vec<&str> = words.iter().map(String::as_str).collect();
+    match run(&words) {
+        Some(true) => ExitCode::SUCCESS,
+        Some(false) => ExitCode::from(1),
+        None => {
+            eprintln!("{USAGE}");
+            ExitCode::from(2)
+        }
+    }
+}

@@ -1,0 +1,1 @@
+//! Named by ml/mod.rs; none of the files at hand uses it.
