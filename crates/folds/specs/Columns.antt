@@ -1,8 +1,14 @@
 -- Lent columns. Document 01: a refusal "fills each lent result column, at its own length, with NaN (floats) or 4,294,967,295 (32-bit whole
 -- numbers)", and working columns "hold 0 in every place afterwards".
-use mathlib.Core.List.{List}
+use mathlib.Core.List.{List, [], _∷_}
+use Prim.Native.Nat.{ℕ, zero, suc}
 use lib.ListN.{length, replicate}
 
 -- the column with v in every place
 abbrev pub filled : {A : Type 0} → A → List A → List A
 filled v column = replicate (length column) v
+
+-- f a, f (a + 1), and so on, k numbers
+unfoldable pub tabulated : {A : Type 0} → (ℕ → A) → ℕ → ℕ → List A
+tabulated f a zero = []
+tabulated f a (suc k) = f a ∷ tabulated f (suc a) k

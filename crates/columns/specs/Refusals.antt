@@ -1,0 +1,39 @@
+-- The numbers of refusals. Document 01, "Questions asked of each call, in this order"; "A refusal returns its number".
+use Prim.Native.Nat.{ℕ}
+use Rattle.columns.specs.declared.Refusal.{Refusal}
+use Rattle.columns.specs.declared.Refusal.the-variants.{TooLong, WrongLength, OutOfRange, NoTolerance, NoSuchSlot, OneClass, Unsolved, NotFinite, PastTheEnd}
+use Rattle.columns.specs.declared.Counted.{Counted}
+use Rattle.columns.specs.declared.Counted.the-variants.{Passing, Refused}
+
+abbrev pub numberOf : Refusal → ℕ
+-- "Is every list at most 16,777,215 long? If not: 1."
+numberOf TooLong = 1
+-- "Do all lent columns have the stated length? If not: 2."
+numberOf WrongLength = 2
+-- "Is the system's size 1 to 20, and the bin count 1 to 65,536? If not: 3."
+numberOf OutOfRange = 3
+-- "Is the tolerance ppm or Da? If not: 4."
+numberOf NoTolerance = 4
+-- "Is each slot below the slot count, or the no-part mark? If not: 5."
+numberOf NoSuchSlot = 5
+-- "For a fit: is there a decoy and a target? If not: 6."
+numberOf OneClass = 6
+-- "Did some eps solve the system? If not: 7."
+numberOf Unsolved = 7
+-- "For a scoring run: are all twenty coefficients finite? If not: 8."
+numberOf NotFinite = 8
+-- "Is the line at most the list's length? If not: 9."
+numberOf PastTheEnd = 9
+
+-- "A refusal returns its number and count 0"; a call that accepts returns 0 and its count.
+abbrev pub countedNumber : Counted → ℕ
+countedNumber (Passing n) = 0
+countedNumber (Refused r) = numberOf r
+
+abbrev pub countedCount : Counted → ℕ
+countedCount (Passing n) = n
+countedCount (Refused r) = 0
+
+-- Question 1's length
+abbrev pub longest : ℕ
+longest = 16777215

@@ -1,0 +1,84 @@
+// What every call asks of its lent columns, and what a refusal leaves in them (document 01, "Questions asked of each call").
+ghost use mathlib.Core.Path.{_≡_};
+ghost use Rattle.folds.specs.Columns.{filled};
+ghost use Rattle.columns.specs.Refusals.{numberOf};
+
+// Why a call refuses, in the order of the questions.
+pub enum Refusal {
+    TooLong,
+    WrongLength,
+    OutOfRange,
+    NoTolerance,
+    NoSuchSlot,
+    OneClass,
+    Unsolved,
+    NotFinite,
+    PastTheEnd,
+}
+
+// The question's number.
+pub fn number(refusal: Refusal) -> u32
+    ensures { λ r. ⌜ r ≡ numberOf refusal ⌝ }
+{
+    match refusal {
+        Refusal::TooLong => 1,
+        Refusal::WrongLength => 2,
+        Refusal::OutOfRange => 3,
+        Refusal::NoTolerance => 4,
+        Refusal::NoSuchSlot => 5,
+        Refusal::OneClass => 6,
+        Refusal::Unsolved => 7,
+        Refusal::NotFinite => 8,
+        Refusal::PastTheEnd => 9,
+    }
+}
+
+// The answer of a call that counts: how many rows pass, or why it refuses.
+pub enum Counted {
+    Passing(usize),
+    Refused(Refusal),
+}
+
+// The longest list that question 1 lets pass: 2^24 - 1 rows, so that each count is exact as an f32.
+pub const LONGEST: usize = 16_777_215;
+
+// The column with `value` in every place. One function for each type of element; their proofs are one law.
+pub fn fill_f32(column: &mut [f32], value: f32)
+    ensures { λ _. ⌜ now (column .exit) ≡ filled value (now (column .entry)) ⌝ }
+{
+    let mut i = 0;
+    while i < column.len() {
+        column[i] = value;
+        i += 1;
+    }
+}
+
+pub fn fill_f64(column: &mut [f64], value: f64)
+    ensures { λ _. ⌜ now (column .exit) ≡ filled value (now (column .entry)) ⌝ }
+{
+    let mut i = 0;
+    while i < column.len() {
+        column[i] = value;
+        i += 1;
+    }
+}
+
+pub fn fill_u32(column: &mut [u32], value: u32)
+    ensures { λ _. ⌜ now (column .exit) ≡ filled value (now (column .entry)) ⌝ }
+{
+    let mut i = 0;
+    while i < column.len() {
+        column[i] = value;
+        i += 1;
+    }
+}
+
+pub fn fill_u64(column: &mut [u64], value: u64)
+    ensures { λ _. ⌜ now (column .exit) ≡ filled value (now (column .entry)) ⌝ }
+{
+    let mut i = 0;
+    while i < column.len() {
+        column[i] = value;
+        i += 1;
+    }
+}

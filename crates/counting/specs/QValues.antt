@@ -1,0 +1,42 @@
+-- Q-values. Document 01: "The counting rule (decoys plus one, over targets, then the running minimum from the bottom)"; module 6: "the rounded
+-- q-value is the counting rule's in f32, its minimum starting at 1.0".
+use mathlib.Core.List.{List, [], _∷_}
+use mathlib.Core.Bool.{cond}
+use Prim.Native.Nat.{ℕ, suc, _+_}
+use lib.IntN.{ℤ, pos}
+use lib.ListN.{length, take}
+use lib.Ieee.{Float, binary32, div, le, ofInt, ofBits}
+use Rattle.folds.specs.Columns.{tabulated}
+use Rattle.floats.specs.Least.{lesser}
+use Rattle.counting.specs.Labels.{decoys, targets}
+
+-- a over b, as f32: both counts as f32, and their quotient rounded
+abbrev pub ratio : ℕ → ℕ → Float
+ratio a b = div binary32 (ofInt binary32 (pos a)) (ofInt binary32 (pos b))
+
+-- decoys plus one, over targets, up to a row; rows count from 1
+unfoldable pub ratioAt : List ℤ → ℕ → Float
+ratioAt labels row = ratio (decoys (take row labels) + 1) (targets (take row labels))
+
+-- the ratio of every row
+unfoldable pub ratios : List ℤ → List Float
+ratios labels = tabulated (ratioAt labels) 1 (length labels)
+
+-- the least of 1.0 and the numbers given
+unfoldable pub lowest : List Float → Float
+lowest [] = ofBits binary32 0x3F800000
+lowest (r ∷ rs) = lesser (lowest rs) r
+
+-- at each place the least of 1.0 and the numbers from there on
+unfoldable pub lows : List Float → List Float
+lows [] = []
+lows (r ∷ rs) = lowest (r ∷ rs) ∷ lows rs
+
+-- the q-value of every row: the least of 1.0 and the ratios from that row down
+unfoldable pub qValues : List ℤ → List Float
+qValues labels = lows (ratios labels)
+
+-- how many of the numbers are at most c
+unfoldable pub atMost : Float → List Float → ℕ
+atMost c [] = 0
+atMost c (q ∷ qs) = cond (le q c) (suc (atMost c qs)) (atMost c qs)
