@@ -1,7 +1,7 @@
 // What every call asks of its lent columns, and what a refusal leaves in them (document 01, "Questions asked of each call").
 ghost use mathlib.Core.Path.{_≡_};
 ghost use Rattle.folds.specs.Columns.{filled};
-ghost use Rattle.columns.specs.Refusals.{numberOf};
+ghost use Rattle.columns.specs.Refusals.{numberOf, countedNumber, countedCount};
 
 // Why a call refuses, in the order of the questions.
 pub enum Refusal {
@@ -37,6 +37,26 @@ pub fn number(refusal: Refusal) -> u32
 pub enum Counted {
     Passing(usize),
     Refused(Refusal),
+}
+
+// 0 where the call accepts, else the question's number.
+pub fn counted_number(answer: Counted) -> u32
+    ensures { λ r. ⌜ r ≡ countedNumber answer ⌝ }
+{
+    match answer {
+        Counted::Passing(_) => 0,
+        Counted::Refused(refusal) => number(refusal),
+    }
+}
+
+// How many pass; 0 where the call refuses.
+pub fn counted_count(answer: Counted) -> usize
+    ensures { λ r. ⌜ r ≡ countedCount answer ⌝ }
+{
+    match answer {
+        Counted::Passing(n) => n,
+        Counted::Refused(_) => 0,
+    }
 }
 
 // The longest list that question 1 lets pass: 2^24 - 1 rows, so that each count is exact as an f32.

@@ -1,0 +1,127 @@
+// The line check (document 01, module 7), which sage has not. One pass: it counts up to the line, keeps those counts, and goes on
+// to the end, where the last later row that qualifies is known.
+ghost use mathlib.Core.Path.{_≡_};
+ghost use Prim.Native.Nat.{_≤_, max};
+ghost use lib.ListN.{length};
+ghost use Rattle.columns.specs.Refusals.{longest};
+ghost use Rattle.counting.specs.Lines.{rightLine};
+ghost use Rattle.line_check.specs.Check.{perOf, countsAt, lineAnswer};
+use columns::Refusal;
+
+// The two rates that lists are sold at.
+pub enum Rate {
+    OneIn100,
+    OneIn20,
+}
+
+// A row, and the decoys plus one and the targets up to it.
+pub struct Counts {
+    pub row: usize,
+    pub decoys: usize,
+    pub targets: usize,
+}
+
+pub enum Line {
+    Right(Counts),
+    Wrong(Counts),
+    Refused(Refusal),
+}
+
+// How many targets each decoy, and the one more, must have.
+fn per_decoy(rate: Rate) -> usize
+    ensures { λ r. ⌜ r ≡ perOf rate ⌝ }
+{
+    match rate {
+        Rate::OneIn100 => 100,
+        Rate::OneIn20 => 20,
+    }
+}
+
+// The counts at `row`.
+fn count_to(labels: &[i32], row: usize) -> Counts
+    requires { ⌜ length (now labels) ≤ longest ⌝ }
+    requires { ⌜ row ≤ length (now labels) ⌝ }
+    ensures { λ r. ⌜ r ≡ countsAt (now (labels .entry)) row ⌝ }
+{
+    let mut decoys: usize = 1;
+    let mut targets: usize = 0;
+    let mut i = 0;
+    while i < row {
+        let is_decoy = (labels[i] == -1) as usize;
+        decoys += is_decoy;
+        targets += 1 - is_decoy;
+        i += 1;
+    }
+    Counts {
+        row,
+        decoys,
+        targets,
+    }
+}
+
+// The counts at the last row after `own` that qualifies, or those of `own` if none does. The pass goes on where `own` ends.
+fn last_later(labels: &[i32], own: Counts, per: usize) -> Counts
+    requires { ⌜ length (now labels) ≤ longest ⌝ }
+    requires { ⌜ per ≤ 100 ⌝ }
+    requires { ⌜ own .row ≤ length (now labels) ⌝ }
+    requires { ⌜ own ≡ countsAt (now labels) (own .row) ⌝ }
+    ensures { λ r. ⌜ r ≡ countsAt (now (labels .entry)) (max (own .row) (rightLine per (now (labels .entry)))) ⌝ }
+{
+    let mut last_row = own.row;
+    let mut last_decoys = own.decoys;
+    let mut last_targets = own.targets;
+    let mut decoys = own.decoys;
+    let mut targets = own.targets;
+    let mut i = own.row;
+    while i < labels.len() {
+        let is_decoy = (labels[i] == -1) as usize;
+        decoys += is_decoy;
+        targets += 1 - is_decoy;
+        i += 1;
+        if targets < per * decoys {
+            continue;
+        }
+        last_row = i;
+        last_decoys = decoys;
+        last_targets = targets;
+    }
+    Counts {
+        row: last_row,
+        decoys: last_decoys,
+        targets: last_targets,
+    }
+}
+
+// The answer for a line within the list: right where no later row qualifies, and the line is 0 or its own row qualifies.
+fn judged(labels: &[i32], line: usize, per: usize) -> Line
+    requires { ⌜ length (now labels) ≤ longest ⌝ }
+    requires { ⌜ line ≤ length (now labels) ⌝ }
+    requires { ⌜ per ≤ 100 ⌝ }
+    ensures { λ r. ⌜ r ≡ lineAnswer per (now (labels .entry)) line ⌝ }
+{
+    let own = count_to(labels, line);
+    let last = last_later(labels, own, per);
+    if line < last.row {
+        return Line::Wrong(last);
+    }
+    if line == 0 {
+        return Line::Right(own);
+    }
+    if own.targets < per * own.decoys {
+        return Line::Wrong(last);
+    }
+    Line::Right(own)
+}
+
+// Whether `line` is the right line of a ranked list at `rate`.
+pub fn check_line(labels: &[i32], line: usize, rate: Rate) -> Line
+    ensures { λ r. ⌜ r ≡ lineAnswer (perOf rate) (now (labels .entry)) line ⌝ }
+{
+    if columns::LONGEST < labels.len() {
+        return Line::Refused(Refusal::TooLong);
+    }
+    if labels.len() < line {
+        return Line::Refused(Refusal::PastTheEnd);
+    }
+    judged(labels, line, per_decoy(rate))
+}
