@@ -1,0 +1,21 @@
+-- The test for a decoy, as the machine makes it on 32 bits. Assumes nothing.
+use mathlib.Core.Path.{_≡_, refl, ap, _∙_}
+use mathlib.Core.Bool.{Bool, true, false, cond}
+use Prim.Native.Nat.{_<_}
+use lib.Dec.{eqb, lit<}
+use lib.IntN.{ℤ}
+use mir.Syntax.{w32}
+use mir.Val.{SFits, ofZ, boolByte}
+use Rattle.counting.specs.Labels.{isDecoy}
+use Rattle.counting.proofs.Tally.{label-test}
+
+byte-of : (b : Bool) → boolByte b ≡ cond b 1 0
+byte-of true = refl
+byte-of false = refl
+
+pub decoy-flag : (z : ℤ) → SFits w32 z → boolByte (eqb (ofZ w32 z) 4294967295) ≡ cond (isDecoy z) 1 0
+decoy-flag z f = ap boolByte (label-test z (f .sfits)) ∙ byte-of (isDecoy z)
+
+pub byte-small : (b : Bool) → boolByte b < 2
+byte-small true = lit< tt
+byte-small false = lit< tt

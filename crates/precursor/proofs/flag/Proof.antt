@@ -1,0 +1,10 @@
+-- `precursor::flag` meets its contract: −1 is the one label whose 32 bits are all ones. Assumes nothing.
+use lib.Dec.{eqb}
+use mir.Syntax.{w32}
+use mir.Val.{ofZ}
+use Rattle.precursor.proofs.Flags.{decoy-flag, byte-small}
+use Rattle.precursor.proofs.flag.Statement.{statement}
+use Rattle.precursor.proofs.flag.Tie as tie
+
+pub flag-spec : {M : Type 1} → statement M
+flag-spec = tie.close (tie.spec (λ c. tt) (λ c. (decoy-flag (c .args .label) (c .fits .label), byte-small (eqb (ofZ w32 (c .args .label)) 4294967295))))

@@ -1,0 +1,2 @@
+pub mod Precursors
+pub mod Packed

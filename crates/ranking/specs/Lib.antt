@@ -1,0 +1,3 @@
+pub mod Ranking
+pub mod Keys
+pub mod Runs
