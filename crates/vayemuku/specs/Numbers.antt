@@ -1,5 +1,16 @@
 -- The numbers that stand for an answer's cases where C and Rust call.
+use mathlib.Core.List.{List}
+use mathlib.Core.Bool.{cond}
+use Prim.Native.Nat.{ℕ}
+use lib.Dec.{leb, eqb}
 use lib.IntN.{ℤ, pos, negsuc}
+use lib.ListN.{length}
+use Rattle.folds.specs.Columns.{filled}
+use Rattle.columns.specs.Refusals.{longest, numberOf}
+use Rattle.line_check.specs.declared.Line.{Line}
+use Rattle.line_check.specs.declared.Line.the-variants.{Right, Wrong, Refused}
+use Rattle.ranking.specs.Keys.{sorted}
+use Rattle.vayemuku.specs.declared.LineNumbers.{LineNumbers}
 use Rattle.floats.specs.declared.Ordering.{Ordering}
 use Rattle.floats.specs.declared.Ordering.the-variants.{Less, Equal, Greater}
 
@@ -8,3 +19,16 @@ abbrev pub signOf : Ordering → ℤ
 signOf Less = negsuc 0
 signOf Equal = pos 0
 signOf Greater = pos 1
+
+-- Document 01's number and values of a line's answer: 1 for right and 0 for wrong, with the three counts; after a refusal all are 0 but the number.
+abbrev pub numbersOf : Line → LineNumbers
+numbersOf (Right c) = record { number = 0; right = 1; row = c .row; decoys = c .decoys; targets = c .targets }
+numbersOf (Wrong c) = record { number = 0; right = 0; row = c .row; decoys = c .decoys; targets = c .targets }
+numbersOf (Refused r) = record { number = numberOf r; right = 0; row = 0; decoys = 0; targets = 0 }
+
+-- Questions 1 and 2 of the bare ranking: the number, and the keys afterwards.
+unfoldable pub keysNumber : ℕ → ℕ → ℕ
+keysNumber keys spare = cond (leb keys longest) (cond (eqb spare keys) 0 2) 1
+
+unfoldable pub keysColumn : List ℕ → ℕ → List ℕ
+keysColumn keys spare = cond (leb (length keys) longest) (cond (eqb spare (length keys)) (sorted keys) (filled 0 keys)) (filled 0 keys)

@@ -1,0 +1,22 @@
+-- `vayemuku::vayemuku_precursor_ranks` meets its contract: the number of what the call answers. Assumes nothing.
+use mathlib.Core.Path.{ap, _∙_}
+use borrow.Author.Needs.{needs}
+use Rattle.precursor.specs.Precursors.{rankedNumber}
+use Rattle.vayemuku.proofs.vayemuku_precursor_ranks.Statement.{statement}
+use Rattle.vayemuku.proofs.vayemuku_precursor_ranks.Tie as tie
+
+returns : tie.Need-returns
+returns c =
+    let told = c .before .before .before .before .before .before .before .precursor-ranks .ensures in
+    (c .ranked-number .ensures ∙ ap rankedNumber (told .0), (told .1 .1 .0, (told .1 .1 .1, told .1 .0)))
+
+pub vayemuku-precursor-ranks-spec : {M : Type 1} → statement M
+vayemuku-precursor-ranks-spec =
+    tie.close
+    (tie.spec
+    (λ c κs. search needs)
+    (λ c κs. search needs)
+    (λ c. search needs)
+    (λ c. search needs)
+    (λ c. search needs)
+    returns)

@@ -1,0 +1,41 @@
+-- `vayemuku::vayemuku_rank_keys` meets its contract: each way out is what its questions and its calls say. Assumes nothing.
+use mathlib.Core.Path.{_∙_}
+use borrow.Author.Needs.{needs}
+use Rattle.vayemuku.proofs.Answers.{keys-too-long, keys-wrong, keys-fine, same-blank}
+use Rattle.vayemuku.proofs.vayemuku_rank_keys.Statement.{statement}
+use Rattle.vayemuku.proofs.vayemuku_rank_keys.Tie as tie
+
+returns : tie.Need-returns
+returns c =
+    let told = keys-too-long (c .before .before .before .before .before .before .before .before .before .before .before .args .keys .now) (c .before .before .before .before .before .before .before .before .before .before .before .args .spare .now) _ (c .before .before .before .before .before .before .before .before .if1 .taken) (c .before .before .before .before .before .before .fill-u64 .ensures) in
+    (told .0, (told .1, c .before .before .fill-u642 .ensures))
+
+returns-2 : tie.Need-returns-2
+returns-2 c =
+    let told = keys-wrong (c .before .before .before .before .before .before .before .before .before .before .before .before .args .keys .now) (c .before .before .before .before .before .before .before .before .before .before .before .before .args .spare .now) _ (c .before .before .before .before .before .before .before .before .before .if1 .left) (c .before .before .before .before .before .before .before .before .if2 .taken) (c .before .before .before .before .before .before .fill-u643 .ensures) in
+    (told .0, (told .1, c .before .before .fill-u644 .ensures))
+
+returns-3 : tie.Need-returns-3
+returns-3 c =
+    let told = keys-fine (c .before .before .before .before .before .before .before .before .before .before .before .before .before .before .before .args .keys .now) (c .before .before .before .before .before .before .before .before .before .before .before .before .before .before .before .args .spare .now) _ (c .before .before .before .before .before .before .before .before .before .before .before .before .if1 .left) (c .before .before .before .before .before .before .before .before .before .before .before .if2 .left) (c .before .before .before .before .before .before .before .before .sort .ensures .0) in
+    (told .0, (told .1, c .before .before .fill-u645 .ensures ∙ same-blank (c .before .before .before .before .before .before .before .before .sort .last .1 .0) (c .before .before .before .before .before .before .before .before .before .before .before .before .before .before .before .args .spare .now) (c .before .before .before .before .before .before .before .before .sort .ensures .1)))
+
+pub vayemuku-rank-keys-spec : {M : Type 1} → statement M
+vayemuku-rank-keys-spec =
+    tie.close
+    (tie.spec
+    (λ c κs. search needs)
+    (λ c κs. search needs)
+    (λ c. search needs)
+    (λ c. search needs)
+    returns
+    (λ c κs. search needs)
+    (λ c κs. search needs)
+    (λ c. search needs)
+    (λ c. search needs)
+    returns-2
+    (λ c κs. search needs)
+    (λ c κs. search needs)
+    (λ c. search needs)
+    (λ c. search needs)
+    returns-3)
