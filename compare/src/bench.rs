@@ -1,33 +1,47 @@
 //! Times the port and the Rust on the same inputs.
 
+pub mod counting;
 pub mod floats;
 
 use std::hint::black_box;
 use std::time::Instant;
 
-const ROUNDS: usize = 11;
+/// Rounds where a run is short.
+pub const ROUNDS: usize = 11;
 
 /// Prints the head of a table.
 pub fn head(unit: &str) {
-    println!("{:16} {:>10} {:>10} {:>11}   ({unit}, median of {ROUNDS} rounds)", "", "port", "Rust", "port / Rust");
+    println!("{:22} {:>10} {:>10} {:>11}   ({unit})", "", "port", "Rust", "port / Rust");
 }
 
 /// Runs both in turn, and prints the median nanoseconds per item of each and their ratio.
 pub fn side_by_side(name: &str, items: usize, mut port: impl FnMut() -> u64, mut rust: impl FnMut() -> u64) {
-    let rounds = [(); ROUNDS].map(|()| [nanoseconds(&mut port), nanoseconds(&mut rust)]);
-    let [port, rust] = [0, 1].map(|side| median(rounds.map(|round| round[side])) / items as f64);
-    println!("{name:16} {port:>10.2} {rust:>10.2} {:>11.2}", port / rust);
+    in_rounds(name, ROUNDS, items, || nanoseconds(&mut port), || nanoseconds(&mut rust));
+}
+
+/// The same for two sides that give the nanoseconds of each run themselves.
+pub fn in_rounds(
+    name: &str,
+    rounds: usize,
+    items: usize,
+    mut port: impl FnMut() -> f64,
+    mut rust: impl FnMut() -> f64,
+) {
+    let times: Vec<[f64; 2]> = (0..rounds).map(|_| [port(), rust()]).collect();
+    let [port, rust] = [0, 1].map(|side| median(times.iter().map(|round| round[side])) / items as f64);
+    println!("{name:22} {port:>10.2} {rust:>10.2} {:>11.3}", port / rust);
 }
 
 /// How long one run takes.
-fn nanoseconds(work: &mut impl FnMut() -> u64) -> f64 {
+pub fn nanoseconds(work: &mut impl FnMut() -> u64) -> f64 {
     let start = Instant::now();
     black_box(work());
     start.elapsed().as_nanos() as f64
 }
 
 /// The middle one.
-fn median(mut times: [f64; ROUNDS]) -> f64 {
+fn median(times: impl Iterator<Item = f64>) -> f64 {
+    let mut times: Vec<f64> = times.collect();
     times.sort_by(f64::total_cmp);
-    times[ROUNDS / 2]
+    times[times.len() / 2]
 }

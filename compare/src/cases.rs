@@ -177,7 +177,7 @@ fn single_boundaries<F: Float>() -> Vec<F> {
 }
 
 /// One random float: any pattern, one in the range of f32, one near a whole number or one of the format's own.
-fn random_float<F: Float>(random: &mut Random) -> F {
+pub fn random_float<F: Float>(random: &mut Random) -> F {
     let infinite = 2 * F::BIAS + 1;
     match random.below(4) {
         0 => F::of(random.next() & (F::SIGN | (F::SIGN - 1))),
@@ -191,7 +191,7 @@ fn random_float<F: Float>(random: &mut Random) -> F {
 }
 
 /// A second float: unrelated, up to two places beside the first, or the first with the other sign.
-fn partner<F: Float>(random: &mut Random, first: F) -> F {
+pub fn partner<F: Float>(random: &mut Random, first: F) -> F {
     match random.below(4) {
         0 | 1 => random_float(random),
         2 => {

@@ -2,8 +2,11 @@
 
 mod bench;
 mod cases;
+mod counting;
 mod floats;
+mod lists;
 mod report;
+mod sage;
 mod smoke;
 mod vayemuku;
 
@@ -11,13 +14,21 @@ use std::process::ExitCode;
 
 const USAGE: &str = "usage: compare smoke
        compare floats [--cases N] [--exhaustive]
-       compare bench floats";
+       compare counting [--lists N]
+       compare bench floats
+       compare bench counting";
+
+/// How many random lists `counting` compares where nothing else is said.
+const LISTS: u64 = 200_000;
 
 /// Runs the words of the command line; None where they mean nothing.
 fn run(words: &[&str]) -> Option<bool> {
     match words {
         ["smoke"] => Some(smoke::run()),
         ["floats", options @ ..] => Some(floats::run(&cases::Plan::from_words(options)?)),
+        ["counting"] => Some(counting::run(LISTS)),
+        ["counting", "--lists", lists] => Some(counting::run(lists.parse().ok()?)),
+        ["bench", "counting"] => Some(bench::counting::run()),
         ["bench", "floats"] => Some(bench::floats::run()),
         _ => None,
     }

@@ -73,6 +73,31 @@ impl Answer for i32 {
     }
 }
 
+/// Ok where both are equal, otherwise both in words.
+pub fn expect<T: PartialEq + std::fmt::Debug>(what: &str, port: T, wanted: T) -> Result<(), String> {
+    match port == wanted {
+        true => Ok(()),
+        false => Err(format!("{what}: port {port:?}, and it should be {wanted:?}")),
+    }
+}
+
+/// Ok where the port's column has the entries wanted, otherwise the first place, from 0, at which they differ.
+pub fn expect_column<T: Answer>(what: &str, port: &[T], mut wanted: impl Iterator<Item = T>) -> Result<(), String> {
+    for (place, got) in port.iter().enumerate() {
+        let wanted = wanted.next();
+        if !wanted.is_some_and(|wanted| got.same(wanted)) {
+            let wanted = wanted.map_or("absent".to_string(), Answer::hex);
+            return Err(format!("{what} at {place}: port {}, and it should be {wanted}", got.hex()));
+        }
+    }
+    Ok(())
+}
+
+/// Ok where the column holds one answer in every place.
+pub fn expect_all<T: Answer>(what: &str, port: &[T], wanted: T) -> Result<(), String> {
+    expect_column(what, port, std::iter::repeat(wanted))
+}
+
 /// The tally of one function.
 pub struct Tally {
     name: &'static str,
@@ -99,9 +124,15 @@ impl Tally {
         }
     }
 
+    /// Counts one case, a mismatch where there are words for it.
+    pub fn outcome(&mut self, outcome: Result<(), String>) {
+        let words = outcome.as_ref().err();
+        self.count(words.is_none(), || words.cloned().unwrap_or_default());
+    }
+
     /// Prints the line, and says whether nothing differed.
     pub fn print(&self) -> bool {
-        println!("{:14} {:>11} cases, {} mismatches{}", self.name, self.cases, self.mismatches, self.first);
+        println!("{:16} {:>11} cases, {} mismatches{}", self.name, self.cases, self.mismatches, self.first);
         self.mismatches == 0
     }
 }

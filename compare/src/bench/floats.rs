@@ -1,6 +1,6 @@
 //! Module 1: on both sides each call is one of a function that is not inlined.
 
-use super::{head, side_by_side};
+use super::{head, side_by_side, ROUNDS};
 use crate::cases::Random;
 use crate::report::Answer;
 use crate::vayemuku::*;
@@ -49,7 +49,7 @@ pub fn run() -> bool {
     println!("{CALLS} random floats from -2^20 to 2^20. Each call, on both sides, is one of a function that is not");
     println!("inlined; \"call alone\" is a function that gives back its argument. Rust has no order keys: beside");
     println!("them stands the bit rule of total_cmp.");
-    head("ns per call");
+    head(&format!("ns per call, median of {ROUNDS} rounds"));
     let same: extern "C" fn(f64) -> f64 = black_box(same_f64);
     one("call alone", &f64s, |x| same(x), |x| same(x));
     one("narrow", &f64s, |x| vayemuku_narrow(x), |x| narrow(x));

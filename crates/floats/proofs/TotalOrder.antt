@@ -3,18 +3,19 @@
 use mathlib.Core.Path.{_≡_, refl, sym, ap, ap₂, _∙_}
 use mathlib.Core.Logic.{_⊎_, inl, inr}
 use mathlib.Core.Bool.{Bool, true, false, not, _&&_, _||_, cond, and-true, and-false, or-false}
-use Prim.Native.Nat.{ℕ, zero, suc, _+_, _-_, _*_, _/_, _^_, _≤_, _<_}
-use native.Mathlib.Nat.{zero-add, add-assoc, zero-mul, add-mul, suc-mul, mul-pos, mul-right-comm, mul-le-mul-right}
+use Prim.Native.Nat.{ℕ, zero, suc, _+_, _-_, _*_, _/_, _%_, _^_, _≤_, _<_, zero-le}
+use native.Mathlib.Nat.{one-mul, mod-lt, zero-add, add-assoc, zero-mul, add-mul, suc-mul, mul-pos, mul-right-comm, mul-le-mul-right}
 use native.Mathlib.Nat.{mul-lt-mul-of-pos-right, eq-or-lt-of-le, eq-zero-or-pos, le-div-iff-mul-le, div-lt-iff-lt-mul}
 use native.Mathlib.Omega.{arith}
 use borrow.Author.Tests.{lt-ltb, le-ltb}
 use lib.Dec.{T, T-not, ltb, ltb→lt, lt→ltb, nltb→le, eqb, lit<}
+use lib.Arith.{digits-div, digits-mod}
 use lib.Pow.{pow-add, pow-pos, shr-mono}
 use lib.IntN.{ℤ}
 use lib.Ieee.{Float, nan, inf, fin, Format, binary32, binary64, prec, emax, low, up, down, size, lt, eq, le, ne, fits, isNan, hid, ones, top, toBits, ofBits}
 use lib.Ieee.Digits.{size-lt, size-le, size-reaches}
 use lib.Ieee.Fits.{two, reach, and-l, and-r, down-pos, kept-lt}
-use lib.Ieee.Bits.{ofBits-toBits}
+use lib.Ieee.Bits.{ofBits-toBits, toBits-lt}
 use lib.Ieee.Compare.{differs-from-itself}
 use lib.Ieee.Nearest.{div-mono}
 use lib.Ieee.Positive.{num, den}
@@ -345,26 +346,41 @@ before-total f x y p q =
 
 -- ---- what the code finds
 
--- the key where x != x, where the sign's bit is off, and where it is on
+-- the key where x != x
 pub key-nan : (f : Format) (x : Float) → ne x x ≡ true → orderKey f x ≡ top f + (ones f * hid f + hid f / 2)
 unfolding orderKey
 key-nan f x e = rw (differs-from-itself x (passes _ e))
 
-pub key-plus : (f : Format) (x : Float) → toBits f x < top f → orderKey f x ≡ toBits f x + top f
-unfolding orderKey
-key-plus f x h = go (top f) (negative x) (toBits f (plain x)) (toBits f x) (bits-sign f x) h
-  where
-    go : (t : ℕ) (s : Bool) (a b : ℕ) → b ≡ cond s t 0 + a → b < t → cond s (2 * t - 1 - b) (t + b) ≡ b + t
-    go t true a b e h = omega arith
-    go t false a b e h = omega arith
+-- the key from the bits: r without the sign, upwards from the middle, or downwards where the sign q is 1
+abbrev pub signed : ℕ → ℕ → ℕ
+signed t b = b % t + t - b / t * (b % t + b % t + 1)
 
-pub key-minus : (f : Format) (x : Float) → T (fits f x) → top f ≤ toBits f x → orderKey f x ≡ 2 * top f - 1 - toBits f x
-unfolding orderKey
-key-minus f x p h = go (top f) (negative x) (toBits f (plain x)) (toBits f x) (bits-sign f x) (mag-lt f x (plain-fits f x p)) h
+pub key-split : (f : Format) (x : Float) → T (fits f x) → orderKey f x ≡ signed (top f) (toBits f x)
+key-split f x p = key-is f x ∙ go (top f) (negative x) (toBits f (plain x)) (toBits f x) (bits-sign f x) (mag-lt f x (plain-fits f x p))
   where
-    go : (t : ℕ) (s : Bool) (a b : ℕ) → b ≡ cond s t 0 + a → a < t → t ≤ b → cond s (2 * t - 1 - b) (t + b) ≡ 2 * t - 1 - b
-    go t true a b e l h = omega arith
-    go t false a b e l h = omega arith
+    go : (t : ℕ) (s : Bool) (a b : ℕ) → b ≡ cond s t 0 + a → a < t → keyOf t s a ≡ signed t b
+    go t true a b e l =
+        let i : b ≡ 1 * t + a = e ∙ rw one-mul in
+        rw (i, digits-div 1 l, digits-mod 1 l, one-mul) (omega arith)
+    go t false a b e l =
+        let i : b ≡ 0 * t + a = e ∙ rw zero-mul in
+        rw (i, digits-div 0 l, digits-mod 0 l, zero-mul) (omega arith)
+
+-- and nothing in it wraps
+top-pos : (f : Format) → 0 < top f
+top-pos binary32 = lit< tt
+top-pos binary64 = lit< tt
+
+pub signed-fits : (f : Format) (x : Float) → T (fits f x)
+    → toBits f x / top f * (toBits f x % top f + toBits f x % top f + 1) ≤ toBits f x % top f + top f
+signed-fits f x p = go (toBits f x / top f) (toBits f x % top f) (div-lt-iff-lt-mul (top-pos f) .1 (toBits-lt f x p)) (mod-lt (toBits f x) (top-pos f))
+  where
+    go : (q r : ℕ) → q < 2 → r < top f → q * (r + r + 1) ≤ r + top f
+    go zero r a b = rw zero-mul zero-le
+    go (suc q) r a b = let z : q ≡ 0 = omega arith in rw (z, one-mul) (omega arith)
+
+pub signed-below : (f : Format) (x : Float) → T (fits f x) → toBits f x / top f * (toBits f x % top f + toBits f x % top f + 1) < 2 * top f
+signed-below f x p = omega (arith, signed-fits f x p, mod-lt (toBits f x) (top-pos f))
 
 -- where the number a stands to b
 abbrev pub ranked : ℕ → ℕ → Ordering

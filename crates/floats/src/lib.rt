@@ -191,7 +191,8 @@ pub enum Ordering {
     Greater,
 }
 
-// A number that stands among the numbers as x stands among the floats.
+// A number that stands among the numbers as x stands among the floats: the bits without the sign, upwards from the middle, or
+// downwards where the sign is on. The sign is a factor and not a branch.
 pub fn order_key_f32(x: f32) -> u32
     ensures { λ r. ⌜ r ≡ orderKey binary32 x ⌝ }
 {
@@ -199,10 +200,9 @@ pub fn order_key_f32(x: f32) -> u32
         return 0xffc0_0000;
     }
     let bits = f32::to_bits(x);
-    if bits < 0x8000_0000 {
-        return bits + 0x8000_0000;
-    }
-    0xffff_ffff - bits
+    let size = bits % 0x8000_0000;
+    let sign = bits / 0x8000_0000;
+    size + 0x8000_0000 - sign * (size + size + 1)
 }
 
 pub fn order_key_f64(x: f64) -> u64
@@ -212,10 +212,9 @@ pub fn order_key_f64(x: f64) -> u64
         return 0xfff8_0000_0000_0000;
     }
     let bits = f64::to_bits(x);
-    if bits < 0x8000_0000_0000_0000 {
-        return bits + 0x8000_0000_0000_0000;
-    }
-    0xffff_ffff_ffff_ffff - bits
+    let size = bits % 0x8000_0000_0000_0000;
+    let sign = bits / 0x8000_0000_0000_0000;
+    size + 0x8000_0000_0000_0000 - sign * (size + size + 1)
 }
 
 // Rust's a.total_cmp(&b), with every NaN the one above all.

@@ -10,10 +10,12 @@ ghost use lib.ListN.{length};
 ghost use Rattle.folds.specs.Columns.{filled};
 ghost use Rattle.columns.specs.Refusals.{countedNumber, countedCount};
 ghost use Rattle.qvalue.specs.Spectrum.{spectrumAnswer, spectrumColumn};
+ghost use Rattle.gauss.specs.Solutions.{solution, solvedNumber};
 ghost use Rattle.line_check.specs.Check.{lineAnswer};
 ghost use Rattle.precursor.specs.Precursors.{precursorAnswer, precursorColumn, ranksAnswer, ranksColumn, rankedNumber};
 ghost use Rattle.vayemuku.specs.Numbers.{signOf, numbersOf, keysNumber, keysColumn};
 use floats::Ordering;
+use gauss::Solved;
 use line_check::Line;
 use line_check::Rate;
 
@@ -321,4 +323,33 @@ pub extern "C" fn vayemuku_check_line_20(
     *decoys = told.decoys;
     *targets = told.targets;
     told.number
+}
+
+// Module 2, elimination.
+
+fn solved_number(answer: Solved) -> u32
+    ensures { λ r. ⌜ r ≡ solvedNumber answer ⌝ }
+{
+    match answer {
+        Solved::Answer => 0,
+        Solved::Refused(refusal) => columns::number(refusal),
+    }
+}
+
+// `values` gets the answer, with 0 past the size, or twenty NaN.
+#[no_mangle]
+pub extern "C" fn vayemuku_solve(
+    left: &[[f64; 20]; 20],
+    right: &[f64; 20],
+    size: usize,
+    values: &mut [f64; 20],
+) -> u32
+    ensures number { λ r. ⌜ r ≡ solvedNumber (solution (now (left .entry)) (now (right .entry)) size .answer) ⌝ }
+    ensures values { λ _. ⌜ now (values .exit) ≡ solution (now (left .entry)) (now (right .entry)) size .values ⌝ }
+{
+    let solved = gauss::solve(*left, *right, size);
+    let numbers = solved.values;
+    *values = numbers;
+    let answer = solved.answer;
+    solved_number(answer)
 }

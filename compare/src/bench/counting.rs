@@ -1,0 +1,124 @@
+//! Modules 5 and 6: spectrum q-values, precursors and the bare ranking, one thread on either side.
+
+use super::{head, in_rounds, nanoseconds, ROUNDS};
+use crate::cases::Random;
+use crate::lists::{rising, shuffle, LONGEST};
+use crate::report::{expect, expect_column};
+use crate::sage::{peaks, q_of, room_for, Rows, PEAK_BYTES, ROW_BYTES};
+use crate::vayemuku::{picked_precursor, rank_keys, spectrum_q_value, vayemuku_order_key_f32};
+use sage_core::scoring::Feature;
+use sage_core::{fdr, ml::qvalue};
+
+/// Numbers of rows, and of rounds.
+const SIZES: [(usize, usize); 2] = [(1_000_000, ROUNDS), (LONGEST, 3)];
+
+/// Times a call under a name, at a number of rows, in a number of rounds.
+type Timed = fn(&str, usize, usize) -> Result<(), String>;
+
+/// Times every call at every size; false where both sides do not give the same.
+pub fn run() -> bool {
+    println!("One thread on either side.");
+    println!("spectrum: sage walks rows of {} bytes, the port columns of labels and q-values.", size_of::<Feature>());
+    println!("precursors: scores in random order. sage reads an FnvHashMap of peaks, makes one of q-values and looks");
+    println!("every peak up in it; that is part of its time.");
+    println!(
+        "ranking: random scores. The port sorts keys of 64 bits (score, then place), made before the clock starts."
+    );
+    println!("Beside it is Rust's stable sort_by with total_cmp on rows (f32, u32); its buffer is part of its time.");
+    let rounds = SIZES.map(|(rows, rounds)| format!("median of {rounds} rounds at {rows}"));
+    head(&format!("ns per row, {}", rounds.join(", ")));
+    let calls: [(&str, Timed); 3] = [("spectrum", spectrum), ("precursors", precursors), ("ranking", ranking)];
+    let mut same = true;
+    for (call, time) in calls {
+        for (rows, rounds) in SIZES {
+            let name = format!("{call}, {rows}");
+            if let Err(words) = time(&name, rows, rounds) {
+                println!("{name}: {words}");
+                same = false;
+            }
+        }
+    }
+    same
+}
+
+/// Labels of a list whose decoy rate rises to a half.
+fn labels_as_ranked(random: &mut Random, rows: usize) -> Vec<i32> {
+    let mut labels = Vec::with_capacity(rows);
+    rising(random, 32_768, rows, &mut labels);
+    labels
+}
+
+/// Falling scores under 1 that narrow to adjacent f32s, with random digits beyond f32's.
+fn falling_scores(random: &mut Random, rows: usize) -> Vec<f64> {
+    let narrowed = (0..rows as u32).map(|place| f32::from_bits(1f32.to_bits() - 1 - place));
+    narrowed.map(|x| f64::from_bits(f64::from(x).to_bits() + random.below(1 << 28))).collect()
+}
+
+/// Spectrum q-values.
+fn spectrum(name: &str, rows: usize, rounds: usize) -> Result<(), String> {
+    room_for(rows * ROW_BYTES)?;
+    let labels = labels_as_ranked(&mut Random::new(8), rows);
+    let mut sage = Rows::default();
+    let features = sage.labelled(&labels);
+    let mut q = vec![0.0; rows];
+    let (mut port_count, mut sage_count) = (0, 0);
+    let mut port = || {
+        port_count = spectrum_q_value(&labels, &mut q).1;
+        port_count as u64
+    };
+    let mut rust = || {
+        sage_count = qvalue::spectrum_q_value(features);
+        sage_count as u64
+    };
+    in_rounds(name, rounds, rows, || nanoseconds(&mut port), || nanoseconds(&mut rust));
+    expect("count", port_count, sage_count)?;
+    expect_column("q", &q, features.iter().map(|row| row.spectrum_q))
+}
+
+/// Precursors' q-values.
+fn precursors(name: &str, rows: usize, rounds: usize) -> Result<(), String> {
+    room_for(rows * PEAK_BYTES)?;
+    let mut random = Random::new(9);
+    let mut labels = labels_as_ranked(&mut random, rows);
+    let mut scores = falling_scores(&mut random, rows);
+    shuffle(&mut random, &mut labels, &mut scores);
+    let mut sage = peaks(&labels, &scores);
+    let (mut keys, mut spare, mut q) = (vec![0; rows], vec![0; rows], vec![0.0; rows]);
+    let (mut port_count, mut sage_count) = (0, 0);
+    let mut port = || {
+        port_count = picked_precursor(&labels, &scores, &mut keys, &mut spare, &mut q).1;
+        port_count as u64
+    };
+    let mut rust = || {
+        sage_count = fdr::picked_precursor(&mut sage);
+        sage_count as u64
+    };
+    in_rounds(name, rounds, rows, || nanoseconds(&mut port), || nanoseconds(&mut rust));
+    expect("count", port_count, sage_count)?;
+    expect_column("q", &q, q_of(&sage, &labels))
+}
+
+/// The bare ranking.
+fn ranking(name: &str, rows: usize, rounds: usize) -> Result<(), String> {
+    let mut random = Random::new(10);
+    // from -2^20 to 2^20, with random digits
+    let score = |_| (random.next() as i64 as f64 / 2f64.powi(43)) as f32;
+    let rust_rows: Vec<(f32, u32)> = (0..rows).map(score).zip(0..).collect();
+    let key = |&(score, place)| u64::from(u32::MAX - vayemuku_order_key_f32(score)) << 32 | u64::from(place);
+    let port_keys: Vec<u64> = rust_rows.iter().map(key).collect();
+    let (mut keys, mut spare, mut sorted) = (port_keys.clone(), vec![0; rows], rust_rows.clone());
+    let port = || {
+        keys.copy_from_slice(&port_keys);
+        nanoseconds(&mut || rank_keys(&mut keys, &mut spare).into())
+    };
+    let rust = || {
+        sorted.copy_from_slice(&rust_rows);
+        nanoseconds(&mut || {
+            sorted.sort_by(|a, b| b.0.total_cmp(&a.0));
+            sorted[0].1.into()
+        })
+    };
+    in_rounds(name, rounds, rows, port, rust);
+    let places: Vec<u32> = keys.iter().map(|key| *key as u32).collect();
+    expect_column("place", &places, sorted.iter().map(|row| row.1))
+}

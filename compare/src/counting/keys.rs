@@ -1,0 +1,55 @@
+//! The bare ranking beside Rust's sort of whole numbers.
+
+use crate::cases::Random;
+use crate::lists::LONGEST;
+use crate::report::{expect, expect_column, Tally};
+use crate::vayemuku::rank_keys;
+
+/// What stands in a working column before a call.
+const GARBAGE: u64 = 0x5a5a_5a5a_5a5a_5a5a;
+
+/// Compares columns of every length under `columns`, of lengths beside powers of two and of the greatest length, and
+/// refusals; says whether nothing differed.
+pub fn run(columns: usize) -> bool {
+    let mut tally = Tally::new("rank_keys");
+    let mut random = Random::new(7);
+    let beside_powers = (1..20).flat_map(|k| [(1 << k) - 1, 1 << k, (1 << k) + 1]);
+    for length in (0..columns).chain(beside_powers).chain([LONGEST]) {
+        tally.outcome(compared(random_keys(&mut random, length)));
+    }
+    let long = LONGEST + 1;
+    for (keys, spare, wanted) in
+        [(0, 1, 2), (5, 4, 2), (5, 6, 2), (5, 0, 2), (3, long, 2), (long, 3, 1), (long, long, 1)]
+    {
+        let number = rank_keys(&mut vec![GARBAGE; keys], &mut vec![GARBAGE; spare]);
+        tally.outcome(expect(&format!("number at lengths {keys} and {spare}"), number, wanted));
+    }
+    tally.print()
+}
+
+/// The keys of a column come back in ascending order.
+fn compared(mut keys: Vec<u64>) -> Result<(), String> {
+    let mut wanted = keys.clone();
+    wanted.sort_unstable();
+    let number = rank_keys(&mut keys, &mut vec![GARBAGE; wanted.len()]);
+    expect("number", number, 0)?;
+    expect_column("key", &keys, wanted.into_iter()).map_err(|fault| format!("{fault}, of {} keys", keys.len()))
+}
+
+/// Keys: any, few different ones, ones with the greatest first and the least last, or ones that rise or fall already.
+fn random_keys(random: &mut Random, length: usize) -> Vec<u64> {
+    let kind = random.below(5);
+    let end = if kind == 1 { 1 + random.below(20) } else { u64::MAX };
+    let mut keys: Vec<u64> = (0..length).map(|_| random.below(end)).collect();
+    if kind == 2 && length > 1 {
+        keys[0] = u64::MAX;
+        keys[length - 1] = 0;
+    }
+    if kind > 2 {
+        keys.sort_unstable();
+    }
+    if kind == 4 {
+        keys.reverse();
+    }
+    keys
+}

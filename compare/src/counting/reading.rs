@@ -1,0 +1,89 @@
+//! The counting rule, the ranking and demand 3, read plainly from document 01.
+
+use crate::cases::Float;
+use crate::report::Answer;
+use crate::vayemuku::{Checked, Rate};
+
+/// Decoys up to each row of a list; row 0 stands before the first.
+pub struct Counted(Vec<usize>);
+
+impl Counted {
+    /// Counts a list.
+    pub fn new(labels: &[i32]) -> Self {
+        let mut decoys = 0;
+        let so_far = labels.iter().map(|&label| {
+            decoys += usize::from(label == -1);
+            decoys
+        });
+        Counted(std::iter::once(0).chain(so_far).collect())
+    }
+
+    /// The list's length.
+    pub fn length(&self) -> usize {
+        self.0.len() - 1
+    }
+
+    /// Targets up to a row.
+    pub fn targets(&self, row: usize) -> usize {
+        row - self.0[row]
+    }
+
+    /// Whether the rate times decoys plus one is at most the targets.
+    fn qualifies(&self, rate: Rate, row: usize) -> bool {
+        rate as usize * (self.0[row] + 1) <= self.targets(row)
+    }
+
+    /// The last row after a line that qualifies.
+    fn last_later(&self, rate: Rate, line: usize) -> Option<usize> {
+        (line + 1..=self.length()).rev().find(|&row| self.qualifies(rate, row))
+    }
+
+    /// Demand 3: no later row qualifies, and the line is zero or its own row does.
+    fn is_right(&self, rate: Rate, line: usize) -> bool {
+        self.last_later(rate, line).is_none() && (line == 0 || self.qualifies(rate, line))
+    }
+
+    /// The line that is right.
+    pub fn right_line(&self, rate: Rate) -> usize {
+        self.last_later(rate, 0).unwrap_or(0)
+    }
+
+    /// What the check of a line should return.
+    pub fn checked(&self, rate: Rate, line: usize) -> Checked {
+        let right = self.is_right(rate, line);
+        let row = self.last_later(rate, line).unwrap_or(line);
+        let (decoys, targets) = (self.0[row] + 1, self.targets(row));
+        Checked { number: 0, right: right.into(), row, decoys, targets }
+    }
+
+    /// The q-value of each row: the least of 1 and of decoys plus one over targets, from the row down.
+    pub fn q_values(&self) -> Vec<f32> {
+        let mut q = vec![1.0; self.length()];
+        let mut least = 1f32;
+        for row in (1..=self.length()).rev() {
+            least = least.min((self.0[row] + 1) as f32 / self.targets(row) as f32);
+            q[row - 1] = least;
+        }
+        q
+    }
+}
+
+/// The places of a list as ranked: greatest narrowed score first, every NaN the one above all, equal in list order.
+pub fn ranked(scores: &[f64]) -> Vec<u32> {
+    let narrowed = |x: f64| f32::of((x as f32).canonical());
+    let mut rows: Vec<(f32, u32)> = scores.iter().map(|x| narrowed(*x)).zip(0..).collect();
+    rows.sort_by(|a, b| b.0.total_cmp(&a.0));
+    rows.into_iter().map(|(_, place)| place).collect()
+}
+
+/// The q-values of precursors at their places, and the count: targets at or under 0.05.
+pub fn precursors(labels: &[i32], places: &[u32]) -> (Vec<f32>, usize) {
+    let as_ranked: Vec<i32> = places.iter().map(|&place| labels[place as usize]).collect();
+    let ranked_q = Counted::new(&as_ranked).q_values();
+    let mut q = vec![0.0; labels.len()];
+    for (&place, &value) in places.iter().zip(&ranked_q) {
+        q[place as usize] = value;
+    }
+    let count = as_ranked.iter().zip(&ranked_q).filter(|(label, q)| **label != -1 && **q <= 0.05).count();
+    (q, count)
+}

@@ -1,0 +1,7 @@
+pub mod Passing
+pub mod Tables
+pub mod Rows
+pub mod Epsilons
+pub mod Solving
+pub mod Meaning
+pub mod Known

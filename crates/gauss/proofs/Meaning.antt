@@ -1,0 +1,110 @@
+-- What a user would ask of the definitions: an answer has 0 past the size and a refusal is blank, what stands past the size changes nothing, and
+-- when row 0 is picked for the pivot. Assumes nothing.
+use mathlib.Core.Path.{_≡_, refl, ap, _∙_}
+use mathlib.Core.Bool.{Bool, true, false, cond, _&&_}
+use Prim.Native.Nat.{ℕ, zero, suc, _+_, _-_, _≤_, _<_}
+use native.Mathlib.Omega.{arith}
+use lib.Dec.{ltb, leb}
+use lib.ListN.{getD, set, replicate, getD-replicate}
+use lib.Seq.{getD-set-other}
+use lib.Ieee.{nan, le}
+use Rattle.columns.specs.declared.Refusal.{Refusal}
+use Rattle.columns.specs.declared.Refusal.the-variants.{OutOfRange, Unsolved}
+use Rattle.folds.specs.Walks.{steps, across, seek}
+use Rattle.gauss.specs.declared.Solved.the-variants.{Answer, Refused}
+use Rattle.gauss.specs.declared.Solution.{Solution}
+use Rattle.gauss.specs.declared.Pivot.{Pivot}
+use Rattle.gauss.specs.Elimination.{Row, Table, entry, put, nought, lowest, leftSolved, larger, pivotRow}
+use Rattle.gauss.specs.Solutions.{blank, answered, joinRow, joined, values, eliminated, attempt, epsilon, tries, solves, firstAnswer, solution}
+
+-- ---- answers and refusals
+
+pub record Sound (size : ℕ) (s : Solution) : Type 0 where
+  -- "answer places past it hold 0"
+  pub zeros : s .answer ≡ Answer → (i : ℕ) → size ≤ i → i < 20 → getD (s .values) i nan ≡ nought
+  -- "Floats returned by value are then NaN", twenty of them
+  pub blanks : (reason : Refusal) → s .answer ≡ Refused reason → s .values ≡ replicate 20 nan
+
+one-of : (P : Solution → Type 0) (b : Bool) {s t : Solution} → P s → P t → P (cond b s t)
+one-of P true p q = p
+one-of P false p q = q
+
+blank-sound : (size : ℕ) (reason : Refusal) → Sound size (blank reason)
+blank-sound size reason = record { zeros = λ e. absurd (never e); blanks = λ r e. refl }
+  where
+    never : Refused reason ≡ Answer → ⊥
+    never e = let z : _≡_ {A = ℕ} 0 1 = cc in omega arith
+
+-- no turn of the walk stores at i
+stores-below : (m : Table) (i a k : ℕ) (v : Row) → a + k ≤ i → getD (steps (λ j v. set v j (entry m j 20)) a k v) i nan ≡ getD v i nan
+unfolding steps
+stores-below m i a zero v h = refl
+stores-below m i a (suc k) v h =
+    stores-below m i (suc a) k (set v a (entry m a 20)) (omega arith) ∙ getD-set-other v a i (entry m a 20) nan (λ (e : i ≡ a). omega arith)
+
+attempt-sound : (size n : ℕ) (m : Table) → Sound size (attempt size (epsilon n) m)
+unfolding attempt values
+attempt-sound size n m = one-of (Sound size) (leftSolved size done) solved (blank-sound size Unsolved)
+  where
+    done : Table
+    done = eliminated size (epsilon n) m
+
+    zero-past : (i : ℕ) → size ≤ i → i < 20 → getD (values size done) i nan ≡ nought
+    zero-past i h l = stores-below done i 0 (size - 0) (replicate 20 nought) (omega arith) ∙ getD-replicate 20 i nought nan l
+
+    never : (reason : Refusal) → Answer ≡ Refused reason → ⊥
+    never reason e = let z : _≡_ {A = ℕ} 0 1 = cc in omega arith
+
+    solved : Sound size (answered (values size done))
+    solved = record { zeros = λ e. zero-past; blanks = λ r e. absurd (never r e) }
+
+pub sound : (left : Table) (right : Row) (size : ℕ) → Sound size (solution left right size)
+unfolding solution firstAnswer
+sound left right size = one-of (Sound size) (leb 1 size && leb size 20) first (blank-sound size OutOfRange)
+  where
+    n : ℕ
+    n = seek (solves size (joined left right size)) 0 tries
+
+    first : Sound size (firstAnswer size (joined left right size))
+    first = one-of (Sound size) (ltb n tries) (attempt-sound size n (joined left right size)) (blank-sound size Unsolved)
+
+-- ---- "Entries past the size are not read."
+
+-- walks whose steps agree in the range
+steps-same : {S : Type 0} (f g : ℕ → S → S) (a k : ℕ) → ((i : ℕ) → i < a + k → (s : S) → f i s ≡ g i s) → (s : S) → steps f a k s ≡ steps g a k s
+unfolding steps
+steps-same f g a zero h s = refl
+steps-same {S} f g a (suc k) h s =
+    steps-same f g (suc a) k (λ (i : ℕ) (l : i < suc a + k). h i (omega arith)) (f a s) ∙ ap (steps g (suc a) k) (h a (omega arith) s)
+
+pub unread : (left left′ : Table) (right right′ : Row) (size : ℕ) → ((i j : ℕ) → i < size → j < size → entry left i j ≡ entry left′ i j)
+    → ((i : ℕ) → i < size → getD right i nan ≡ getD right′ i nan) → solution left right size ≡ solution left′ right′ size
+unfolding solution joined
+unread left left′ right right′ size l r = ap (λ (m : Table). cond (leb 1 size && leb size 20) (firstAnswer size m) (blank OutOfRange)) same
+  where
+    turn : (i : ℕ) → i < 0 + (size - 0) → (m : Table) → joinRow left right size i m ≡ joinRow left′ right′ size i m
+    turn i h m =
+        ap (λ (x : Table). put i 20 (getD right i nan) x)
+        (steps-same (λ j. put i j (entry left i j)) (λ j. put i j (entry left′ i j)) 0 (size - 0)
+        (λ (j : ℕ) (g : j < 0 + (size - 0)) (t : Table). ap (λ x. put i j x t) (l i j (omega arith) (omega arith))) m)
+        ∙ ap (λ x. put i 20 x (across (λ j. put i j (entry left′ i j)) 0 size m)) (r i (omega arith))
+
+    same : joined left right size ≡ joined left′ right′ size
+    same = steps-same (joinRow left right size) (joinRow left′ right′ size) 0 (size - 0) turn (replicate 20 (replicate 21 nought))
+
+-- ---- "If nothing in the column from row h down is ≥ f64::MIN (only NaN or −infinity), row 0 is picked."
+
+-- a walk whose steps change nothing
+steps-still : {S : Type 0} (f : ℕ → S → S) (a k : ℕ) (s : S) → ((i : ℕ) → a ≤ i → i < a + k → f i s ≡ s) → steps f a k s ≡ s
+unfolding steps
+steps-still f a zero s h = refl
+steps-still f a (suc k) s h =
+    ap (steps f (suc a) k) (h a (omega arith) (omega arith))
+    ∙ steps-still f (suc a) k s (λ (i : ℕ) (l : suc a ≤ i) (g : i < suc a + k). h i (omega arith) (omega arith))
+
+pub row-zero : (size h k : ℕ) (m : Table) → ((i : ℕ) → h ≤ i → i < size → le lowest (entry m i k) ≡ false) → pivotRow size h k m ≡ 0
+unfolding pivotRow
+row-zero size h k m none = ap (λ (p : Pivot). p .row) (steps-still (larger m k) h (size - h) (record { row = 0; value = lowest }) still)
+  where
+    still : (i : ℕ) → h ≤ i → i < h + (size - h) → larger m k i (record { row = 0; value = lowest }) ≡ record { row = 0; value = lowest }
+    still i l g = rw (none i l (omega arith))

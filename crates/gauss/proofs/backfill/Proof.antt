@@ -1,0 +1,71 @@
+-- `gauss::backfill` meets its contract. The rows are walked from the last up (`Fall`), each along its columns (`Along`) until the first nonzero
+-- entry; the measures are the rows and the columns left. Assumes nothing.
+use Prim.Native.Nat.{_-_}
+use Rattle.folds.proofs.Walks.{Fall, fall-start, fall-done}
+use Rattle.gauss.proofs.Rows.{Along, along-start, along-step, none-found, found}
+use Rattle.gauss.specs.Elimination.{atFirst, clearedAbove, backfilled}
+use borrow.Author.Needs.{needs}
+use Rattle.gauss.proofs.backfill.Statement.{statement}
+use Rattle.gauss.proofs.backfill.Tie as tie
+
+abbrev Inv-loop : tie.InvT-loop
+Inv-loop size m₀ i j₀ m j = Along size i j m₀ m
+
+abbrev μ-loop : tie.MeasureT-loop
+μ-loop size m₀ i j₀ m j = size - j
+
+abbrev Inv-rows : tie.InvT-rows
+Inv-rows size m₀ i₀ m i = Fall (atFirst (clearedAbove size) size) i size m₀ m
+
+abbrev μ-rows : tie.MeasureT-rows
+μ-rows size m₀ i₀ m i = i
+
+rows-holds : tie.Need-rows-holds Inv-loop μ-loop Inv-rows μ-rows
+rows-holds c = fall-start
+
+loop-holds : tie.Need-loop-holds Inv-loop μ-loop Inv-rows μ-rows
+loop-holds c = along-start (search needs)
+
+rows-again : tie.Need-rows-again Inv-loop μ-loop Inv-rows μ-rows
+rows-again c =
+    let rows = c .before .before .before in
+    none-found (clearedAbove (rows .before .args .size)) (c .before .loop .inv) (rows .rows .inv) (search needs) (search needs)
+
+loop-again : tie.Need-loop-again Inv-loop μ-loop Inv-rows μ-rows
+loop-again c = along-step (c .before .before .before .loop .inv) (search needs) (c .if1 .taken)
+
+rows-again-2 : tie.Need-rows-again-2 Inv-loop μ-loop Inv-rows μ-rows
+rows-again-2 c =
+    let turn = c .before .before .before .before .before in
+    let rows = turn .before .before in
+    found (clearedAbove (rows .before .args .size)) (turn .loop .inv) (rows .rows .inv) (search needs) (search needs) (c .before .before .if1 .left)
+    (c .clear-above .ensures)
+
+returns : tie.Need-returns Inv-loop μ-loop Inv-rows μ-rows
+unfolding backfilled
+returns c = fall-done (c .before .rows .inv) (search needs)
+
+pub backfill-spec : {M : Type 1} → statement M
+backfill-spec =
+    tie.close
+    (tie.spec
+    Inv-loop
+    μ-loop
+    Inv-rows
+    μ-rows
+    rows-holds
+    (λ c. search needs)
+    loop-holds
+    (λ c. search needs)
+    rows-again
+    (λ c. search needs)
+    (λ c. search needs)
+    (λ c. search needs)
+    (λ c. search needs)
+    (λ c. search needs)
+    (λ c. search needs)
+    loop-again
+    (λ c κs. search needs)
+    (λ c. search needs)
+    rows-again-2
+    returns)
