@@ -27,6 +27,8 @@ prepare: ## what compare and bench need: Debian's packaged crates, and sage's un
 compare: lib prepare ## the port beside sage's unchanged Rust and Rust's own operators, by bits; fails on one mismatch
 	$(COMPARE) smoke
 	$(COMPARE) floats
+	$(COMPARE) counting
 
 bench: lib prepare ## the port and the Rust timed in one driver, with ratios
 	$(COMPARE) bench floats
+	$(COMPARE) bench counting

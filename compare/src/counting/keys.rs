@@ -2,7 +2,7 @@
 
 use crate::cases::Random;
 use crate::lists::LONGEST;
-use crate::report::{expect, expect_column, Tally};
+use crate::report::{expect, expect_all, expect_column, Tally};
 use crate::vayemuku::rank_keys;
 
 /// What stands in a working column before a call.
@@ -21,19 +21,31 @@ pub fn run(columns: usize) -> bool {
     for (keys, spare, wanted) in
         [(0, 1, 2), (5, 4, 2), (5, 6, 2), (5, 0, 2), (3, long, 2), (long, 3, 1), (long, long, 1)]
     {
-        let number = rank_keys(&mut vec![GARBAGE; keys], &mut vec![GARBAGE; spare]);
-        tally.outcome(expect(&format!("number at lengths {keys} and {spare}"), number, wanted));
+        tally.outcome(refused(keys, spare, wanted));
     }
     tally.print()
 }
 
-/// The keys of a column come back in ascending order.
+/// The keys of a column come back in ascending order, and the working column holds 0.
 fn compared(mut keys: Vec<u64>) -> Result<(), String> {
     let mut wanted = keys.clone();
     wanted.sort_unstable();
-    let number = rank_keys(&mut keys, &mut vec![GARBAGE; wanted.len()]);
-    expect("number", number, 0)?;
-    expect_column("key", &keys, wanted.into_iter()).map_err(|fault| format!("{fault}, of {} keys", keys.len()))
+    let mut spare = vec![GARBAGE; keys.len()];
+    let number = rank_keys(&mut keys, &mut spare);
+    expect("number", number, 0)
+        .and_then(|()| expect_column("key", &keys, wanted.into_iter()))
+        .and_then(|()| expect_all("spare afterwards", &spare, 0))
+        .map_err(|fault| format!("{fault}, of {} keys", keys.len()))
+}
+
+/// Columns of these lengths are refused, and hold 0 in every place afterwards.
+fn refused(keys: usize, spare: usize, wanted: u32) -> Result<(), String> {
+    let (mut keys, mut spare) = (vec![GARBAGE; keys], vec![GARBAGE; spare]);
+    let number = rank_keys(&mut keys, &mut spare);
+    expect("number", number, wanted)
+        .and_then(|()| expect_all("keys afterwards", &keys, 0))
+        .and_then(|()| expect_all("spare afterwards", &spare, 0))
+        .map_err(|fault| format!("{fault}, lengths {} and {}", keys.len(), spare.len()))
 }
 
 /// Keys: any, few different ones, ones with the greatest first and the least last, or ones that rise or fall already.

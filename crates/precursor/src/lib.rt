@@ -95,14 +95,22 @@ fn one_per_row(rows: usize, scores: usize, keys: usize, spare: usize, q: usize) 
     (scores == rows) & columns_fit(rows, keys, spare, q)
 }
 
+// "They hold 0 in every place afterwards, accepted or refused."
+fn clear(keys: &mut [u64], spare: &mut [u64])
+    ensures keys { λ _. ⌜ now (keys .exit) ≡ filled 0 (now (keys .entry)) ⌝ }
+    ensures spare { λ _. ⌜ now (spare .exit) ≡ filled 0 (now (spare .entry)) ⌝ }
+{
+    columns::fill_u64(keys, 0);
+    columns::fill_u64(spare, 0);
+}
+
 // What a refusal leaves: 0 in the working columns, NaN in the result.
 fn blank(keys: &mut [u64], spare: &mut [u64], q: &mut [f32])
     ensures keys { λ _. ⌜ now (keys .exit) ≡ filled 0 (now (keys .entry)) ⌝ }
     ensures spare { λ _. ⌜ now (spare .exit) ≡ filled 0 (now (spare .entry)) ⌝ }
     ensures q { λ _. ⌜ now (q .exit) ≡ filled nan (now (q .entry)) ⌝ }
 {
-    columns::fill_u64(keys, 0);
-    columns::fill_u64(spare, 0);
+    clear(keys, spare);
     columns::fill_f32(q, 0.0 / 0.0);
 }
 
@@ -123,8 +131,7 @@ fn picked(
     pack(labels, scores, keys);
     ranking::sort(keys, spare);
     let passing = assign_q_value(keys, q);
-    columns::fill_u64(keys, 0);
-    columns::fill_u64(spare, 0);
+    clear(keys, spare);
     passing
 }
 
@@ -194,8 +201,7 @@ fn rank(scores: &[f64], keys: &mut [u64], spare: &mut [u64], ranks: &mut [u32])
     pack_scores(scores, keys);
     ranking::sort(keys, spare);
     write_ranks(keys, ranks);
-    columns::fill_u64(keys, 0);
-    columns::fill_u64(spare, 0);
+    clear(keys, spare);
 }
 
 // What a refusal leaves: 0 in the working columns, 4,294,967,295 in the result.
@@ -204,8 +210,7 @@ fn blank_ranks(keys: &mut [u64], spare: &mut [u64], ranks: &mut [u32])
     ensures spare { λ _. ⌜ now (spare .exit) ≡ filled 0 (now (spare .entry)) ⌝ }
     ensures ranks { λ _. ⌜ now (ranks .exit) ≡ filled 4294967295 (now (ranks .entry)) ⌝ }
 {
-    columns::fill_u64(keys, 0);
-    columns::fill_u64(spare, 0);
+    clear(keys, spare);
     columns::fill_u32(ranks, 0xffff_ffff);
 }
 

@@ -30,6 +30,9 @@ sub-target c = omega (arith, decoys-fit c)
 loop-holds : tie.Need-loop-holds Inv-loop μ-loop
 loop-holds c = assigned-start _ _ _ (c .count-decoys .ensures)
 
+loop-again : tie.Need-loop-again Inv-loop μ-loop
+loop-again c = assigned-step _ _ _ (c .before .before .before .before .before .loop .inv) (search needs) _ _ (c .min-f32 .ensures) (sym one-in-20)
+
 -- both counts are small enough to be floats
 int-to-float-min-f32 : tie.Need-int-to-float-min-f32 Inv-loop μ-loop
 unfolding inFloat
@@ -60,9 +63,6 @@ add-passing c =
 
 sub-target-3 : tie.Need-sub-target-3 Inv-loop μ-loop
 sub-target-3 c = target-left _ _ (c .before .before .before .before .before .loop .inv) (search needs)
-
-loop-again : tie.Need-loop-again Inv-loop μ-loop
-loop-again c = assigned-step _ _ _ (c .before .before .before .before .before .loop .inv) (search needs) _ _ (c .min-f32 .ensures) (sym one-in-20)
 
 returns : tie.Need-returns Inv-loop μ-loop
 returns c = assigned-done _ _ (c .before .loop .inv) (search needs)

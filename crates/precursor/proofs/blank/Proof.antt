@@ -1,4 +1,4 @@
--- `precursor::blank` meets its contract: what each fill ensures. Assumes nothing.
+-- `precursor::blank` meets its contract: what `clear` and the fill ensure. Assumes nothing.
 use borrow.Author.Needs.{needs}
 use lib.Ieee.{div, ofBits}
 use Rattle.precursor.proofs.blank.Statement.{statement}
@@ -6,16 +6,8 @@ use Rattle.precursor.proofs.blank.Tie as tie
 
 returns : tie.Need-returns
 unfolding div ofBits
-returns c = (c .before .before .before .before .before .before .before .before .before .before .fill-u64 .ensures, (c .before .before .before .before .before .before .fill-u642 .ensures, c .before .before .fill-f32 .ensures))
+returns c = (c .before .before .before .before .before .before .before .before .clear .ensures .0, (c .before .before .before .before .before .before .before .before .clear .ensures .1, c .before .before .fill-f32 .ensures))
 
 pub blank-spec : {M : Type 1} → statement M
 blank-spec =
-    tie.close
-    (tie.spec
-    (λ c κs. search needs)
-    (λ c κs. search needs)
-    (λ c κs. search needs)
-    (λ c. search needs)
-    (λ c. search needs)
-    (λ c. search needs)
-    returns)
+    tie.close (tie.spec (λ c κs. search needs) (λ c κs. search needs) (λ c. search needs) (λ c. search needs) (λ c. search needs) returns)

@@ -14,9 +14,9 @@ assign-q-value-requires c κs =
 
 returns : tie.Need-returns
 returns c =
-    picked-all (c .before .before .before .before .before .before .before .before .before .before .before .before .before .before .before .before .before .before .before .before .before .before .before .before .before .before .before .before .args .labels .now) (c .before .before .before .before .before .before .before .before .before .before .before .before .before .before .before .before .before .before .before .before .before .before .before .before .before .before .before .before .args .scores .now) (c .before .before .before .before .before .before .before .before .before .before .before .before .before .before .before .before .before .before .before .before .before .before .before .before .before .before .before .before .args .keys .now) (c .before .before .before .before .before .before .before .before .before .before .before .before .before .before .before .before .before .before .before .before .before .before .before .before .before .before .before .before .args .spare .now) (c .before .before .before .before .before .before .before .before .before .before .before .before .before .before .before .before .before .before .before .before .before .before .before .before .before .before .before .before .args .q .now) (c .before .before .before .before .before .before .before .before .before .before .before .before .before .before .before .before .before .before .before .before .before .before .before .before .before .before .before .before .pre)
-    _ (c .before .before .before .before .before .before .before .before .before .before .before .before .before .before .before .before .before .before .before .before .before .before .pack .ensures) _ (c .before .before .before .before .before .before .before .before .before .before .before .before .before .before .before .before .before .sort .ensures .0) _ (c .before .before .before .before .before .before .before .before .before .before .assign-q-value .ensures .0) _ (c .before .before .before .before .before .before .before .before .before .before .assign-q-value .ensures .1)
-    (c .before .before .before .before .before .before .before .before .before .before .before .before .before .before .before .before .before .sort .last .1 .0) (c .before .before .before .before .before .before .before .before .before .before .before .before .before .before .before .before .before .sort .ensures .1) _ _ (c .before .before .before .before .before .before .fill-u64 .ensures) (c .before .before .fill-u642 .ensures)
+    picked-all (c .before .before .before .before .before .before .before .before .before .before .before .before .before .before .before .before .before .before .before .before .before .before .before .before .before .before .before .args .labels .now) (c .before .before .before .before .before .before .before .before .before .before .before .before .before .before .before .before .before .before .before .before .before .before .before .before .before .before .before .args .scores .now) (c .before .before .before .before .before .before .before .before .before .before .before .before .before .before .before .before .before .before .before .before .before .before .before .before .before .before .before .args .keys .now) (c .before .before .before .before .before .before .before .before .before .before .before .before .before .before .before .before .before .before .before .before .before .before .before .before .before .before .before .args .spare .now) (c .before .before .before .before .before .before .before .before .before .before .before .before .before .before .before .before .before .before .before .before .before .before .before .before .before .before .before .args .q .now) (c .before .before .before .before .before .before .before .before .before .before .before .before .before .before .before .before .before .before .before .before .before .before .before .before .before .before .before .pre)
+    _ (c .before .before .before .before .before .before .before .before .before .before .before .before .before .before .before .before .before .before .before .before .before .pack .ensures) _ (c .before .before .before .before .before .before .before .before .before .before .before .before .before .before .before .before .sort .ensures .0) _ (c .before .before .before .before .before .before .before .before .before .assign-q-value .ensures .0) _ (c .before .before .before .before .before .before .before .before .before .assign-q-value .ensures .1)
+    (c .before .before .before .before .before .before .before .before .before .before .before .before .before .before .before .before .sort .last .1 .0) (c .before .before .before .before .before .before .before .before .before .before .before .before .before .before .before .before .sort .ensures .1) _ _ (c .before .before .before .before .clear .ensures .0) (c .before .before .before .before .clear .ensures .1)
 
 pub picked-spec : {M : Type 1} → statement M
 picked-spec =
@@ -25,7 +25,6 @@ picked-spec =
     (λ c κs. search needs)
     sort-requires
     assign-q-value-requires
-    (λ c κs. search needs)
     (λ c κs. search needs)
     (λ c. search needs)
     (λ c. search needs)

@@ -13,9 +13,9 @@ write-ranks-requires c κs = writable (c .before .before .before .before .before
 
 returns : tie.Need-returns
 returns c =
-    ranks-all (c .before .before .before .before .before .before .before .before .before .before .before .before .before .before .before .before .before .before .before .before .before .before .before .before .before .before .before .before .args .scores .now) (c .before .before .before .before .before .before .before .before .before .before .before .before .before .before .before .before .before .before .before .before .before .before .before .before .before .before .before .before .args .keys .now) (c .before .before .before .before .before .before .before .before .before .before .before .before .before .before .before .before .before .before .before .before .before .before .before .before .before .before .before .before .args .spare .now) (c .before .before .before .before .before .before .before .before .before .before .before .before .before .before .before .before .before .before .before .before .before .before .before .before .before .before .before .before .args .ranks .now) (c .before .before .before .before .before .before .before .before .before .before .before .before .before .before .before .before .before .before .before .before .before .before .before .before .before .before .before .before .pre)
-    _ (c .before .before .before .before .before .before .before .before .before .before .before .before .before .before .before .before .before .before .before .before .before .before .pack-scores .ensures) _ (c .before .before .before .before .before .before .before .before .before .before .before .before .before .before .before .before .before .sort .ensures .0) _ (c .before .before .before .before .before .before .before .before .before .before .write-ranks .ensures)
-    (c .before .before .before .before .before .before .before .before .before .before .before .before .before .before .before .before .before .sort .last .1 .0) (c .before .before .before .before .before .before .before .before .before .before .before .before .before .before .before .before .before .sort .ensures .1) _ _ (c .before .before .before .before .before .before .fill-u64 .ensures) (c .before .before .fill-u642 .ensures)
+    ranks-all (c .before .before .before .before .before .before .before .before .before .before .before .before .before .before .before .before .before .before .before .before .before .before .before .before .before .before .before .args .scores .now) (c .before .before .before .before .before .before .before .before .before .before .before .before .before .before .before .before .before .before .before .before .before .before .before .before .before .before .before .args .keys .now) (c .before .before .before .before .before .before .before .before .before .before .before .before .before .before .before .before .before .before .before .before .before .before .before .before .before .before .before .args .spare .now) (c .before .before .before .before .before .before .before .before .before .before .before .before .before .before .before .before .before .before .before .before .before .before .before .before .before .before .before .args .ranks .now) (c .before .before .before .before .before .before .before .before .before .before .before .before .before .before .before .before .before .before .before .before .before .before .before .before .before .before .before .pre)
+    _ (c .before .before .before .before .before .before .before .before .before .before .before .before .before .before .before .before .before .before .before .before .before .pack-scores .ensures) _ (c .before .before .before .before .before .before .before .before .before .before .before .before .before .before .before .before .sort .ensures .0) _ (c .before .before .before .before .before .before .before .before .before .write-ranks .ensures)
+    (c .before .before .before .before .before .before .before .before .before .before .before .before .before .before .before .before .sort .last .1 .0) (c .before .before .before .before .before .before .before .before .before .before .before .before .before .before .before .before .sort .ensures .1) _ _ (c .before .before .before .before .clear .ensures .0) (c .before .before .before .before .clear .ensures .1)
 
 pub rank-spec : {M : Type 1} → statement M
 rank-spec =
@@ -24,7 +24,6 @@ rank-spec =
     (λ c κs. search needs)
     sort-requires
     write-ranks-requires
-    (λ c κs. search needs)
     (λ c κs. search needs)
     (λ c. search needs)
     (λ c. search needs)
