@@ -1,0 +1,97 @@
+-- How many of a list pass a test, counted from the front by adding the test's bit, so that no element takes a branch.
+-- The code's test of a label, on its bits, is the definition's. Assumes nothing.
+use mathlib.Core.Path.{_≡_, refl, sym, ap, _∙_}
+use mathlib.Core.List.{List, [], _∷_}
+use mathlib.Core.Bool.{Bool, true, false, cond}
+use Prim.Native.Nat.{ℕ, suc, _+_, _≤_, _<_, _^_, zero-le}
+use native.Mathlib.Numerals.{add-one}
+use native.Mathlib.Omega.{arith}
+use borrow.Author.Tests.{eqb-true}
+use lib.Dec.{T, eqb, eqb→eq}
+use lib.IntN.{ℤ, pos, negsuc}
+use lib.Signed.{mag}
+use lib.ListN.{length, getD, drop}
+use lib.Seq.{drop-cons, drop-length}
+use mir.Syntax.{w32}
+use mir.Val.{hbits, boolByte, ofZ, toZ}
+use mir.ValLaws.{toZ-ofZ}
+use Rattle.folds.proofs.Tests.{same-test}
+use Rattle.kde.specs.Bins.{howMany, isDecoy}
+
+pub record Counting {A : Type 0} (p : A → Bool) (l : List A) (i n : ℕ) : Type 0 where
+  pub high : i ≤ length l
+  pub few : n ≤ i
+  pub is : n + howMany p (drop i l) ≡ howMany p l
+
+bit-is : (b : Bool) → boolByte b ≡ cond b 1 0
+bit-is true = refl
+bit-is false = refl
+
+pub bit-le : (b : Bool) → boolByte b ≤ 1
+bit-le true = omega arith
+bit-le false = omega arith
+
+pub counting-start : {A : Type 0} (p : A → Bool) (l : List A) → Counting p l 0 0
+counting-start p l = record { high = zero-le; few = zero-le; is = omega arith }
+
+pub counting-step : {A : Type 0} {p : A → Bool} {l : List A} {i n : ℕ} (d : A) (b : Bool)
+    → Counting p l i n → i < length l → b ≡ p (getD l i d) → Counting p l (i + 1) (n + boolByte b)
+unfolding howMany
+counting-step {A} {p} {l} {i} {n} d b w h e =
+    let few = w .few in
+    let is = w .is in
+    let more : howMany p (drop i l) ≡ cond (p (getD l i d)) 1 0 + howMany p (drop (suc i) l) = ap (howMany p) (drop-cons l i d h) in
+    let bit : boolByte b ≡ cond (p (getD l i d)) 1 0 = bit-is b ∙ ap (λ (x : Bool). cond x 1 0) e in
+    let one : boolByte b ≤ 1 = bit-le b in
+    let next : howMany p (drop (i + 1) l) ≡ howMany p (drop (suc i) l) = ap (λ (x : ℕ). howMany p (drop x l)) (add-one i) in
+    record { high = omega arith; few = omega arith; is = omega arith }
+
+pub counting-done : {A : Type 0} {p : A → Bool} {l : List A} {i n : ℕ} → Counting p l i n → length l ≤ i → n ≡ howMany p l
+unfolding howMany
+counting-done {A} {p} {l} {i} {n} w h =
+    let high = w .high in
+    let is = w .is in
+    let e : i ≡ length l = omega arith in
+    let none : howMany p (drop i l) ≡ 0 = ap (λ (x : ℕ). howMany p (drop x l)) e ∙ ap (howMany p) (drop-length l) in
+    omega arith
+
+-- a list has no more of them than elements
+pub howMany-le : {A : Type 0} (p : A → Bool) (l : List A) → howMany p l ≤ length l
+unfolding howMany
+howMany-le p [] = zero-le
+howMany-le p (a ∷ l) = go (p a) (howMany-le p l)
+  where
+    go : (b : Bool) → howMany p l ≤ length l → cond b 1 0 + howMany p l ≤ suc (length l)
+    go true h = omega arith
+    go false h = omega arith
+
+-- no slot is both a decoy and a target
+pub slots-le : (flags : List ℕ) → howMany (λ (n : ℕ). eqb n 1) flags + howMany (λ (n : ℕ). eqb n 0) flags ≤ length flags
+unfolding howMany
+slots-le [] = zero-le
+slots-le (n ∷ flags) = go (eqb n 1) (eqb n 0) (howMany (λ (n : ℕ). eqb n 1) flags) (howMany (λ (n : ℕ). eqb n 0) flags) refl refl (slots-le flags)
+  where
+    go : (a b : Bool) (d t : ℕ) → eqb n 1 ≡ a → eqb n 0 ≡ b → d + t ≤ length flags → (cond a 1 0 + d) + (cond b 1 0 + t) ≤ suc (length flags)
+    go true true d t e g h = omega (arith, eqb-true n 1 e, eqb-true n 0 g)
+    go true false d t e g h = omega arith
+    go false true d t e g h = omega arith
+    go false false d t e g h = omega arith
+
+-- the sum of a turn fits
+pub counting-fits : {A : Type 0} {p : A → Bool} {l : List A} {i n : ℕ} (b : Bool) → Counting p l i n → i < length l → length l < 2 ^ 64 → n + boolByte b < 2 ^ 64
+counting-fits {n = n} b w h k =
+    let few = w .few in
+    let one = bit-le b in
+    omega arith
+
+-- ---- a label of -1
+
+minus-one : (l : ℤ) → T (isDecoy l) → l ≡ negsuc 0
+minus-one (pos n) t = absurd t
+minus-one (negsuc n) t = ap negsuc (eqb→eq n 0 t)
+
+pub decoy-test : (l : ℤ) → mag l < 2 ^ hbits w32 → eqb (ofZ w32 l) 4294967295 ≡ isDecoy l
+decoy-test l f =
+    same-test (eqb (ofZ w32 l) 4294967295) (isDecoy l)
+    (λ t. rw (sym (toZ-ofZ w32 l (record { sfits = f })) ∙ ap (toZ w32) (eqb→eq (ofZ w32 l) 4294967295 t)) tt)
+    (λ t. rw (minus-one l t) tt)

@@ -1,0 +1,13 @@
+pub mod Columns
+pub mod Counts
+pub mod Questions
+pub mod Steps
+pub mod Signs
+pub mod Logs
+pub mod Building
+pub mod Differences
+pub mod Zeros
+pub mod Estimates
+pub mod Monotone
+pub mod Points
+pub mod Scores

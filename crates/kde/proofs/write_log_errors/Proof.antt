@@ -1,0 +1,48 @@
+-- `kde::write_log_errors` meets its contract: the column is written from the front (`Tabling`), each place by the definition of one.
+-- Assumes nothing.
+use mathlib.Core.Path.{_∙_, ap}
+use Prim.Native.Nat.{ℕ, _-_}
+use lib.ListN.{length, getD}
+use lib.Ieee.{nan}
+use Rattle.folds.specs.Columns.{tabulated}
+use Rattle.kde.proofs.Columns.{Tabling, tabling-start, tabling-step, tabling-done, tabulated-map}
+use Rattle.kde.specs.LogErrors.{logError}
+use borrow.Author.Needs.{needs}
+use Rattle.kde.proofs.write_log_errors.Statement.{statement}
+use Rattle.kde.proofs.write_log_errors.Tie as tie
+
+abbrev Inv-loop : tie.InvT-loop
+Inv-loop log10s errors₀ i₀ errors i = Tabling (λ (k : ℕ). logError (getD log10s k nan)) (length errors₀) errors i
+
+abbrev μ-loop : tie.MeasureT-loop
+μ-loop log10s errors₀ i₀ errors i = length errors₀ - i
+
+loop-holds : tie.Need-loop-holds Inv-loop μ-loop
+loop-holds c = tabling-start _ _
+
+loop-again : tie.Need-loop-again Inv-loop μ-loop
+loop-again c = tabling-step _ (c .before .before .before .loop .inv) (c .before .before .loop-test .taken) (c .log-error .ensures)
+
+returns : tie.Need-returns Inv-loop μ-loop
+returns c =
+    tabling-done (c .before .loop .inv) (c .loop-test .left)
+    ∙ ap (tabulated (λ (k : ℕ). logError (getD (c .before .before .before .before .args .log10s .now) k nan)) 0) (search needs)
+    ∙ tabulated-map (logError) nan (c .before .before .before .before .args .log10s .now)
+
+pub write-log-errors-spec : {M : Type 1} → statement M
+write-log-errors-spec =
+    tie.close
+    (tie.spec
+    Inv-loop
+    μ-loop
+    loop-holds
+    (λ c. search needs)
+    (λ c. search needs)
+    (λ c κs. search needs)
+    (λ c. search needs)
+    (λ c. search needs)
+    (λ c. search needs)
+    (λ c. search needs)
+    loop-again
+    (λ c. search needs)
+    returns)

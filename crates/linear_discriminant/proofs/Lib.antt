@@ -1,0 +1,12 @@
+pub mod Turns
+pub mod Halves
+pub mod Piles
+pub mod Classes
+pub mod Sums
+pub mod Slots
+pub mod Scatter
+pub mod Fits
+pub mod Lengths
+pub mod Blocks
+pub mod Coefficients
+pub mod Runs

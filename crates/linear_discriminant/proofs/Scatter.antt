@@ -1,0 +1,148 @@
+-- The second pass: each entry of the two tables is the definition's sum, and the scatter of columns j and k, wherever it was kept, is that of
+-- the definition, since products commute. Assumes nothing.
+use mathlib.Core.Path.{_≡_, refl, ap, _∙_}
+use mathlib.Core.Logic.{_⊎_, inl, inr}
+use mathlib.Core.List.{List, []}
+use mathlib.Core.Bool.{Bool, true, false, cond}
+use Prim.Native.Nat.{ℕ, _+_, _*_, _/_, _≤_, _<_, zero-le}
+use native.Mathlib.Nat.{mul-comm}
+use native.Mathlib.Omega.{arith}
+use lib.Dec.{ltb, eqb}
+use lib.IntN.{ℤ}
+use lib.ListN.{getD, replicate}
+use lib.Ieee.{Float, nan, inf, fin, Format, binary64, up, down, unlike, add, sub, mul}
+use borrow.Author.Tests.{lt-ltb, le-ltb, ltb-true}
+use Rattle.folds.specs.Walks.{steps, across}
+use Rattle.folds.specs.Columns.{tabulated}
+use Rattle.folds.proofs.Tests.{lt-or-ge}
+use Rattle.gauss.specs.Elimination.{Row, Table, row, entry}
+use Rattle.linear_discriminant.specs.Rows.{nought, feature}
+use Rattle.linear_discriminant.specs.Fit.{inClass, addTaken, summed, product}
+use Rattle.linear_discriminant.specs.Passes.{centredAt, centredRow, addProductOf, width, columnOf, tableOf, halfOf, placeOf, scatterOf}
+use Rattle.linear_discriminant.proofs.Turns.{across-same, across-join, tabulated-same, tabulated-at}
+use Rattle.linear_discriminant.proofs.Halves.{other-has, column-at}
+use Rattle.linear_discriminant.proofs.Piles.{kept-added}
+use Rattle.linear_discriminant.proofs.Slots.{Adds}
+
+-- ---- a product of floats commutes
+
+unlike-comm : (s t : Bool) → unlike s t ≡ unlike t s
+unlike-comm true true = refl
+unlike-comm true false = refl
+unlike-comm false true = refl
+unlike-comm false false = refl
+
+pub float-mul-comm : (f : Format) (x y : Float) → mul f x y ≡ mul f y x
+unfolding mul
+float-mul-comm f nan nan = refl
+float-mul-comm f nan (inf t) = refl
+float-mul-comm f nan (fin t n d) = refl
+float-mul-comm f (inf s) nan = refl
+float-mul-comm f (inf s) (inf t) = ap inf (unlike-comm s t)
+float-mul-comm f (inf s) (fin t n d) = ap (λ (u : Bool). cond (eqb n 0) nan (inf u)) (unlike-comm s t)
+float-mul-comm f (fin s m e) nan = refl
+float-mul-comm f (fin s m e) (inf t) = ap (λ (u : Bool). cond (eqb m 0) nan (inf u)) (unlike-comm s t)
+float-mul-comm f (fin s m e) (fin t n d) = rw (unlike-comm s t, mul-comm (m * up e) (n * up d), mul-comm (down e) (down d))
+
+-- so scatter is symmetric, bit for bit
+pub product-comm : (takes : ℕ → Bool) (features : List Float) (mu : ℕ → Float) (j k n : ℕ)
+    → summed takes (product features mu j k) n ≡ summed takes (product features mu k j) n
+unfolding summed
+product-comm takes features mu j k n =
+    across-same 0 n nought
+    (λ i l u s. ap (λ (x : Float). cond (takes i) (add binary64 s x) s) (float-mul-comm binary64 (sub binary64 (feature features i j) (mu j)) (sub binary64 (feature features i k) (mu k))))
+
+-- ---- the tables
+
+module _ (features : List Float) (labels : List ℤ) (mean : List Float) (c : ℕ) where
+  abbrev mu : ℕ → Float
+  mu j = getD mean j nan
+
+  abbrev kept : ℕ → Row
+  kept i = centredRow features i mean
+
+  -- before the first row
+  pub empty : replicate 20 (replicate 12 nought) ≡ tableOf (halfOf features labels mean c 0)
+  unfolding tabulated summed steps
+  empty = refl
+
+  -- the product of two columns of a kept row is the definition's
+  kept-product : (j d : ℕ) → j < 20 → 2 * (j / 2) + d < 28 → (i : ℕ) (s : Float)
+      → addProductOf j (2 * (j / 2) + d) (kept i) s ≡ add binary64 s (product features mu j (columnOf j d) i)
+  unfolding centredRow
+  kept-product j d h l i s =
+      let z : j < 28 = omega arith in
+      ap (λ (x : Float). add binary64 s (mul binary64 x (getD (kept i) (2 * (j / 2) + d) nan))) (tabulated-at (centredAt features mean i) 28 j nan z ∙ low)
+      ∙ ap (λ (y : Float). add binary64 s (mul binary64 (sub binary64 (feature features i j) (mu j)) y)) (tabulated-at (centredAt features mean i) 28 (2 * (j / 2) + d) nan l)
+    where
+      low : centredAt features mean i j ≡ sub binary64 (feature features i j) (mu j)
+      low = rw (lt-ltb j 20 h)
+
+  -- place d of row j lies in a kept row
+  within-row : (j d : ℕ) → j < 20 → d < width j → 2 * (j / 2) + d < 28
+  within-row j d h l = go (ltb j 10) refl l
+    where
+      go : (b : Bool) → ltb j 10 ≡ b → d < cond b 12 10 → 2 * (j / 2) + d < 28
+      go true e g =
+          let z = ltb-true j 10 e in
+          omega arith
+      go false e g = omega arith
+
+  pub adds : Adds (inClass labels c) kept (λ n. tableOf (halfOf features labels mean c n))
+  unfolding summed
+  adds rows m a b h same =
+      kept-added rows m (halfOf features labels mean c a)
+      ∙ tabulated-same 20 (λ j l. tabulated-same 12 (λ d u. at j d l (ltb d (width j)) refl))
+    where
+      sums : ℕ → ℕ → ℕ → Float
+      sums j d n = summed (inClass labels c) (product features mu j (columnOf j d)) n
+
+      run : (j d : ℕ) → j < 20 → d < width j → across (λ g. addProductOf j (2 * (j / 2) + d) (row rows g)) 0 m (sums j d a) ≡ sums j d b
+      run j d l u =
+          same (addProductOf j (2 * (j / 2) + d)) (sums j d a)
+          ∙ across-same a b (sums j d a) (λ i p q s. ap (λ (x : Float). cond (inClass labels c i) x s) (kept-product j d l (within-row j d l u) i s))
+          ∙ across-join (addTaken (inClass labels c) (product features mu j (columnOf j d))) 0 a b nought zero-le h
+
+      at : (j d : ℕ) → j < 20 → (t : Bool) → ltb d (width j) ≡ t
+          → cond t (across (λ g. addProductOf j (2 * (j / 2) + d) (row rows g)) 0 m (cond t (sums j d a) nought)) (cond t (sums j d a) nought)
+          ≡ cond t (sums j d b) nought
+      at j d l true e = run j d l (ltb-true d (width j) e)
+      at j d l false e = refl
+
+  -- the sum of columns j and k, wherever it is
+  pub scatter-is : (n j k : ℕ) → j < 20 → k < 20
+      → scatterOf (tableOf (halfOf features labels mean c n)) j k ≡ summed (inClass labels c) (product features mu j k) n
+  unfolding scatterOf
+  scatter-is n j k h l = go (lt-or-ge (placeOf j k) (width j))
+    where
+      table : Table
+      table = tableOf (halfOf features labels mean c n)
+
+      most : (j : ℕ) → width j ≤ 12
+      most j = go (ltb j 10)
+        where
+          go : (b : Bool) → cond b 12 10 ≤ 12
+          go true = omega arith
+          go false = omega arith
+
+      read : (j k : ℕ) → j < 20 → k < 20 → placeOf j k < width j → entry table j (placeOf j k) ≡ summed (inClass labels c) (product features mu j k) n
+      read j k h l p =
+          let m = most j in
+          let z : placeOf j k < 12 = omega arith in
+          ap (λ (r : Row). getD r (placeOf j k) nan) (tabulated-at (λ j. tabulated (halfOf features labels mean c n j) 0 12) 20 j [] h)
+          ∙ tabulated-at (halfOf features labels mean c n j) 12 (placeOf j k) nan z
+          ∙ rw (lt-ltb (placeOf j k) (width j) p)
+          (ap (λ (q : ℕ). summed (inClass labels c) (product features mu j q) n) (column-at j k h l p))
+
+      pick : (b : Bool) → ltb (placeOf j k) (width j) ≡ b
+          → cond (ltb (placeOf j k) (width j)) (entry table j (placeOf j k)) (entry table k (placeOf k j))
+          ≡ cond b (entry table j (placeOf j k)) (entry table k (placeOf k j))
+      pick b e = ap (λ (b : Bool). cond b (entry table j (placeOf j k)) (entry table k (placeOf k j))) e
+
+      go : (placeOf j k < width j) ⊎ (width j ≤ placeOf j k)
+          → cond (ltb (placeOf j k) (width j)) (entry table j (placeOf j k)) (entry table k (placeOf k j)) ≡ summed (inClass labels c) (product features mu j k) n
+      go (inl p) = pick true (lt-ltb (placeOf j k) (width j) p) ∙ read j k h l p
+      go (inr p) =
+          pick false (le-ltb (placeOf j k) (width j) p)
+          ∙ read k j l h (other-has j k h l p)
+          ∙ product-comm (inClass labels c) features mu k j n

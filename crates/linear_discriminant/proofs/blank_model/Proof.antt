@@ -1,0 +1,12 @@
+-- `linear_discriminant::blank_model` meets its contract: 0.0 / 0.0 is the NaN. Assumes nothing.
+use mathlib.Core.Path.{refl}
+use lib.Ieee.{div, ofBits}
+use Rattle.linear_discriminant.proofs.blank_model.Statement.{statement}
+use Rattle.linear_discriminant.proofs.blank_model.Tie as tie
+
+returns : tie.Need-returns
+unfolding div ofBits
+returns c = refl
+
+pub blank-model-spec : {M : Type 1} → statement M
+blank-model-spec = tie.close (tie.spec returns)

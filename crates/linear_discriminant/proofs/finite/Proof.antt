@@ -1,0 +1,10 @@
+-- `linear_discriminant::finite` meets its contract: what the two comparisons say of each kind of float. Assumes nothing.
+use Rattle.linear_discriminant.proofs.Coefficients.{between-infinities}
+use Rattle.linear_discriminant.proofs.finite.Statement.{statement}
+use Rattle.linear_discriminant.proofs.finite.Tie as tie
+
+returns : tie.Need-returns
+returns c = between-infinities (c .args .x)
+
+pub finite-spec : {M : Type 1} → statement M
+finite-spec = tie.close (tie.spec returns)
