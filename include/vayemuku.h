@@ -72,6 +72,49 @@ uint32_t vayemuku_rank_keys(uint64_t *keys, size_t keys_len, uint64_t *spare, si
  * twenty NaN. Refusals: 3 the size, 7 no eps solves. */
 uint32_t vayemuku_solve(const double left[20][20], const double right[20], size_t size, double values[20]);
 
+/* Module 3: the fit. features has twenty numbers for each label, row after row. coefficients gets twenty numbers that this call worked out, or twenty
+ * NaN. Refusals: 1 more than 16,777,215 labels or 335,544,300 features, 2 not twenty features for each label, 6 no decoy or no target, 7 no eps solves. */
+uint32_t vayemuku_train(const double *features, size_t features_len, const int32_t *labels, size_t labels_len, double coefficients[20]);
+
+/* Module 3: the score of one row; it refuses nothing. */
+double vayemuku_score(const double coefficients[20], const double row[20]);
+
+/* Module 3: the scoring run: each row's score, and the score narrowed. scores says how many rows there are. Refusals: 1 more than 335,544,300 features,
+ * 2 not twenty features or not one narrowed score for each row, 8 a coefficient that is not finite. */
+uint32_t vayemuku_score_rows(const double coefficients[20], const double *features, size_t features_len, double *scores, size_t scores_len,
+                             float *narrowed, size_t narrowed_len);
+
+/* Module 4: posterior errors. An estimator is its least score, its step and its column of bins. sage's builder starts with this many bins, monotonic. */
+#define VAYEMUKU_BINS 1000
+
+/* Step one: *min_score and *score_step get the least score and the step, and bin_scores the score of every bin, at which the host takes its two
+ * densities. Refusals: 1 more than 16,777,215 scores, 2 bin_scores not `bins` long, 3 not 1 to 65,536 bins; then both numbers are NaN. */
+uint32_t vayemuku_bin_scores(size_t bins, const double *scores, size_t scores_len, double *bin_scores, size_t bin_scores_len, double *min_score,
+                             double *score_step);
+
+/* Step two: the bins of the estimator, from the host's densities; any `monotonic` but 0 asks for bins that never rise with the score. Refusals: 1, 2 a
+ * column not `count` long, 3. */
+uint32_t vayemuku_posterior_bins(uint32_t monotonic, size_t count, const int32_t *labels, size_t labels_len, const double *decoy_density,
+                                 size_t decoy_density_len, const double *target_density, size_t target_density_len, double *bins, size_t bins_len);
+
+/* Step two over a competition's slots: is_decoy is 1 for a decoy and 0 for a target; a slot that holds neither takes no part. */
+uint32_t vayemuku_slot_posterior_bins(uint32_t monotonic, size_t count, const uint32_t *is_decoy, size_t is_decoy_len, const double *decoy_density,
+                                      size_t decoy_density_len, const double *target_density, size_t target_density_len, double *bins, size_t bins_len);
+
+/* The posterior error of a score: *error gets it, or NaN. Refusal: 3 not 1 to 65,536 bins. An accepted posterior error can be NaN too. */
+uint32_t vayemuku_posterior_error(double min_score, double score_step, const double *bins, size_t bins_len, double score, double *error);
+
+/* The posterior error of every score. Refusals: 1, 2 errors not as long as the scores, 3. */
+uint32_t vayemuku_posterior_errors(double min_score, double score_step, const double *bins, size_t bins_len, const double *scores, size_t scores_len,
+                                   double *errors, size_t errors_len);
+
+/* The bin count for mass errors within a tolerance: unit 0 is ppm, 1 is Da; *bins gets the count, or 0. Refusals: 4 any other unit, 3 above 65,536. */
+uint32_t vayemuku_bin_count(uint32_t unit, float lo, float hi, size_t *bins);
+
+/* The host's log10 of a posterior error, narrowed, with -324 for an infinity; for one number, and for a column. Refusals: 1, 2. */
+float vayemuku_log_error(double log10);
+uint32_t vayemuku_log_errors(const double *log10s, size_t log10s_len, float *errors, size_t errors_len);
+
 /* Module 7: whether a line of a ranked list is right, at one in 100 and at one in 20. *right gets 1 or 0; *row, *decoys (plus one) and *targets
  * the numbers of the line if it is right, else of the last later row that qualifies or, if none does, of the line. Refusals: 1, 9 a line past the list. */
 uint32_t vayemuku_check_line_100(const int32_t *labels, size_t labels_len, size_t line, uint32_t *right, size_t *row, size_t *decoys, size_t *targets);

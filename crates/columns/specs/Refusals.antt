@@ -2,6 +2,8 @@
 use Prim.Native.Nat.{ℕ}
 use Rattle.columns.specs.declared.Refusal.{Refusal}
 use Rattle.columns.specs.declared.Refusal.the-variants.{TooLong, WrongLength, OutOfRange, NoTolerance, NoSuchSlot, OneClass, Unsolved, NotFinite, PastTheEnd}
+use Rattle.columns.specs.declared.Outcome.{Outcome}
+use Rattle.columns.specs.declared.Outcome.the-variants as outcome
 use Rattle.columns.specs.declared.Counted.{Counted}
 use Rattle.columns.specs.declared.Counted.the-variants.{Passing, Refused}
 
@@ -24,6 +26,11 @@ numberOf Unsolved = 7
 numberOf NotFinite = 8
 -- "Is the line at most the list's length? If not: 9."
 numberOf PastTheEnd = 9
+
+-- A call that accepts returns 0.
+abbrev pub outcomeNumber : Outcome → ℕ
+outcomeNumber outcome.Accepted = 0
+outcomeNumber (outcome.Refused r) = numberOf r
 
 -- "A refusal returns its number and count 0"; a call that accepts returns 0 and its count.
 abbrev pub countedNumber : Counted → ℕ

@@ -1,7 +1,7 @@
 // What every call asks of its lent columns, and what a refusal leaves in them (document 01, "Questions asked of each call").
 ghost use mathlib.Core.Path.{_≡_};
 ghost use Rattle.folds.specs.Columns.{filled};
-ghost use Rattle.columns.specs.Refusals.{numberOf, countedNumber, countedCount};
+ghost use Rattle.columns.specs.Refusals.{numberOf, outcomeNumber, countedNumber, countedCount};
 
 // Why a call refuses, in the order of the questions.
 pub enum Refusal {
@@ -30,6 +30,22 @@ pub fn number(refusal: Refusal) -> u32
         Refusal::Unsolved => 7,
         Refusal::NotFinite => 8,
         Refusal::PastTheEnd => 9,
+    }
+}
+
+// The answer of a call that fills lent columns.
+pub enum Outcome {
+    Accepted,
+    Refused(Refusal),
+}
+
+// 0 where the call accepts, else the question's number.
+pub fn outcome_number(answer: Outcome) -> u32
+    ensures { λ r. ⌜ r ≡ outcomeNumber answer ⌝ }
+{
+    match answer {
+        Outcome::Accepted => 0,
+        Outcome::Refused(refusal) => number(refusal),
     }
 }
 

@@ -28,7 +28,7 @@ decoys-suc (l ∷ ls) (suc i) d h = go (isDecoy l) _ (decoys (take i ls)) _ (dec
 
 -- ---- together
 
-both : (labels : List ℤ) → decoys labels + targets labels ≡ length labels
+pub both : (labels : List ℤ) → decoys labels + targets labels ≡ length labels
 unfolding decoys targets
 both [] = refl
 both (l ∷ ls) = go (isDecoy l) (decoys ls) (targets ls) (both ls)

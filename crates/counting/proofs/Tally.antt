@@ -1,6 +1,6 @@
 -- A loop that counts decoys and targets down a list, without a branch: the test of a label is 0 or 1, which goes to the decoys, and what it
 -- lacks of 1 goes to the targets. The decoys start at 1, for the plus one. Assumes nothing.
-use mathlib.Core.Path.{_≡_, refl}
+use mathlib.Core.Path.{_≡_, refl, ap, _∙_}
 use mathlib.Core.List.{List}
 use mathlib.Core.Bool.{Bool, true, false, cond}
 use Prim.Native.Nat.{ℕ, suc, _+_, _-_, _^_, _≤_, _<_, zero-le}
@@ -10,6 +10,7 @@ use lib.Dec.{T, eqb, eqb→eq, le→leb}
 use lib.IntN.{ℤ, pos, negsuc}
 use lib.Signed.{mag}
 use lib.ListN.{length, take, getD}
+use lib.Seq.{take-all}
 use lib.Ieee.{binary32, inFloat}
 use lib.Ieee.Fits.{eq→eqb}
 use mir.Syntax.{w32}
@@ -66,6 +67,33 @@ bit-small false = omega arith
 
 pub mark-small : (labels : List ℤ) (i : ℕ) → mark labels i ≤ 1
 mark-small labels i = bit-small (eqb (ofZ w32 (getD labels i (pos 0))) 4294967295)
+
+-- ---- the decoys so far, alone
+
+pub record Decoys (labels : List ℤ) (i count : ℕ) : Type 0 where
+  pub high : i ≤ length labels
+  pub is : count ≡ decoys (take i labels)
+
+pub decoys-start : (labels : List ℤ) → Decoys labels 0 0
+unfolding decoys
+decoys-start labels = record { high = zero-le; is = refl }
+
+module _ {labels : List ℤ} {i count : ℕ} (w : Decoys labels i count) where
+  pub decoys-step : i < length labels → mag (getD labels i (pos 0)) < 2 ^ 31 → Decoys labels (i + 1) (count + mark labels i)
+  decoys-step h f = rw (label-test (getD labels i (pos 0)) f) (go (isDecoy (getD labels i (pos 0))) (decoys-next labels i (pos 0) h))
+    where
+      go : (b : Bool) → decoys (take (i + 1) labels) ≡ decoys (take i labels) + cond b 1 0 → Decoys labels (i + 1) (count + boolByte b)
+      go true e = let is = w .is in record { high = omega arith; is = omega arith }
+      go false e = let is = w .is in record { high = omega arith; is = omega arith }
+
+  pub decoys-fit : i < length labels → length labels < 2 ^ 64 → count + mark labels i < 2 ^ 64
+  decoys-fit h k =
+      let is = w .is in
+      let high = w .high in
+      omega (arith, row-counts i labels, mark-small labels i)
+
+  pub decoys-done : length labels ≤ i → count ≡ decoys labels
+  decoys-done h = w .is ∙ ap decoys (take-all i labels h)
 
 module _ {labels : List ℤ} {i decoy target : ℕ} (t : Tally labels i decoy target) (h : i < length labels) where
   pub next-decoy : decoy + mark labels i ≤ length labels + 1

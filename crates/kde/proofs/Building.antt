@@ -1,6 +1,6 @@
 -- The two steps of building an estimator, over plain lists: what the questions' answer and the passes give together is what the definitions say.
 -- Assumes nothing.
-use mathlib.Core.Path.{_≡_, sym, ap, _∙_, subst⁻¹}
+use mathlib.Core.Path.{_≡_, sym, ap, _∙_}
 use mathlib.Core.Bool.{true, false, _&&_}
 use mathlib.Core.List.{List}
 use Prim.Native.Nat.{ℕ, _+_, _-_, _≤_}
@@ -14,17 +14,19 @@ use lib.Ieee.{Float, nan, binary64, ofInt, sub, div}
 use lib.Ieee.Fits.{and-l, and-r}
 use Rattle.folds.specs.Columns.{filled, tabulated}
 use Rattle.columns.specs.declared.Refusal.{Refusal}
-use Rattle.kde.specs.declared.Outcome.{Outcome}
-use Rattle.kde.specs.declared.Outcome.the-variants.{Accepted, Refused}
+use Rattle.columns.specs.declared.Outcome.{Outcome}
+use Rattle.columns.specs.declared.Outcome.the-variants.{Accepted, Refused}
 use Rattle.kde.specs.declared.Built.the-variants as built
 use Rattle.kde.specs.declared.Builder.{Builder}
 use Rattle.kde.specs.declared.Reach.{Reach}
 use Rattle.kde.specs.declared.Estimator.{Estimator}
 use Rattle.kde.specs.Answers.{asked}
 use Rattle.kde.specs.Bins.{leastScore, greatestScore, estimatorOf, binScore, binScoresAnswer, binScoresColumn}
-use Rattle.kde.specs.Bins.{howMany, isDecoy, decoyShare, mixed, raised, binsOf, Ready, binsAsked, binsWritten, labelBins, slotBins}
+use Rattle.kde.specs.Bins.{howMany, decoyShare, mixed, raised, binsOf, Ready, binsAsked, binsWritten, labelBins, slotBins}
 use Rattle.kde.proofs.Questions.{asked-lengths, asked-range, given-refused, given-accepted}
-use Rattle.kde.proofs.Counts.{howMany-le, slots-le}
+use Rattle.counting.specs.Labels.{decoys}
+use Rattle.counting.proofs.Labels.{both}
+use Rattle.kde.proofs.Counts.{slots-le}
 
 -- ---- step one
 
@@ -99,13 +101,13 @@ module _ (builder : Builder) (labels : List ℤ) (decoyDensity targetDensity col
   unfolding labelBins binsWritten binsAsked
   labels-refused e h = (sym e, h ∙ given-refused _ _ e)
 
-  module _ {decoys : ℕ} (d : decoys ≡ howMany isDecoy labels) (e : labelsAnswer ≡ Accepted) where
-    pub labels-ready : Ready builder decoys (length labels) decoyDensity targetDensity column
+  module _ {n : ℕ} (d : n ≡ decoys labels) (e : labelsAnswer ≡ Accepted) where
+    pub labels-ready : Ready builder n (length labels) decoyDensity targetDensity column
     labels-ready =
-        ready builder (length labels) decoyDensity targetDensity column decoys (length labels) e
-        (subst⁻¹ (λ (x : ℕ). x ≤ length labels) d (howMany-le isDecoy labels)) (le-refl (length labels))
+        ready builder (length labels) decoyDensity targetDensity column n (length labels) e
+        (omega (arith, both labels)) (le-refl (length labels))
 
-    pub labels-written : {l : List Float} → l ≡ binsOf builder decoys (length labels) decoyDensity targetDensity
+    pub labels-written : {l : List Float} → l ≡ binsOf builder n (length labels) decoyDensity targetDensity
         → (Accepted ≡ binsAsked builder (length labels) (length decoyDensity) (length targetDensity) (length column))
         × (l ≡ labelBins builder labels decoyDensity targetDensity column)
     unfolding labelBins binsWritten binsAsked

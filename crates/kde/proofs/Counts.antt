@@ -1,22 +1,16 @@
--- How many of a list pass a test, counted from the front by adding the test's bit, so that no element takes a branch.
--- The code's test of a label, on its bits, is the definition's. Assumes nothing.
-use mathlib.Core.Path.{_≡_, refl, sym, ap, _∙_}
+-- How many of a list pass a test, counted from the front by adding the test's bit, so that no element takes a branch. Assumes nothing.
+use mathlib.Core.Path.{_≡_, refl, ap, _∙_}
 use mathlib.Core.List.{List, [], _∷_}
 use mathlib.Core.Bool.{Bool, true, false, cond}
 use Prim.Native.Nat.{ℕ, suc, _+_, _≤_, _<_, _^_, zero-le}
 use native.Mathlib.Numerals.{add-one}
 use native.Mathlib.Omega.{arith}
 use borrow.Author.Tests.{eqb-true}
-use lib.Dec.{T, eqb, eqb→eq}
-use lib.IntN.{ℤ, pos, negsuc}
-use lib.Signed.{mag}
+use lib.Dec.{eqb}
 use lib.ListN.{length, getD, drop}
 use lib.Seq.{drop-cons, drop-length}
-use mir.Syntax.{w32}
-use mir.Val.{hbits, boolByte, ofZ, toZ}
-use mir.ValLaws.{toZ-ofZ}
-use Rattle.folds.proofs.Tests.{same-test}
-use Rattle.kde.specs.Bins.{howMany, isDecoy}
+use mir.Val.{boolByte}
+use Rattle.kde.specs.Bins.{howMany}
 
 pub record Counting {A : Type 0} (p : A → Bool) (l : List A) (i n : ℕ) : Type 0 where
   pub high : i ≤ length l
@@ -55,16 +49,6 @@ counting-done {A} {p} {l} {i} {n} w h =
     let none : howMany p (drop i l) ≡ 0 = ap (λ (x : ℕ). howMany p (drop x l)) e ∙ ap (howMany p) (drop-length l) in
     omega arith
 
--- a list has no more of them than elements
-pub howMany-le : {A : Type 0} (p : A → Bool) (l : List A) → howMany p l ≤ length l
-unfolding howMany
-howMany-le p [] = zero-le
-howMany-le p (a ∷ l) = go (p a) (howMany-le p l)
-  where
-    go : (b : Bool) → howMany p l ≤ length l → cond b 1 0 + howMany p l ≤ suc (length l)
-    go true h = omega arith
-    go false h = omega arith
-
 -- no slot is both a decoy and a target
 pub slots-le : (flags : List ℕ) → howMany (λ (n : ℕ). eqb n 1) flags + howMany (λ (n : ℕ). eqb n 0) flags ≤ length flags
 unfolding howMany
@@ -83,15 +67,3 @@ counting-fits {n = n} b w h k =
     let few = w .few in
     let one = bit-le b in
     omega arith
-
--- ---- a label of -1
-
-minus-one : (l : ℤ) → T (isDecoy l) → l ≡ negsuc 0
-minus-one (pos n) t = absurd t
-minus-one (negsuc n) t = ap negsuc (eqb→eq n 0 t)
-
-pub decoy-test : (l : ℤ) → mag l < 2 ^ hbits w32 → eqb (ofZ w32 l) 4294967295 ≡ isDecoy l
-decoy-test l f =
-    same-test (eqb (ofZ w32 l) 4294967295) (isDecoy l)
-    (λ t. rw (sym (toZ-ofZ w32 l (record { sfits = f })) ∙ ap (toZ w32) (eqb→eq (ofZ w32 l) 4294967295 t)) tt)
-    (λ t. rw (minus-one l t) tt)

@@ -9,8 +9,8 @@ use lib.Ieee.Fits.{and-l, and-r}
 use Rattle.columns.specs.Refusals.{longest}
 use Rattle.columns.specs.declared.Refusal.{Refusal}
 use Rattle.columns.specs.declared.Refusal.the-variants.{TooLong, WrongLength, OutOfRange}
-use Rattle.kde.specs.declared.Outcome.{Outcome}
-use Rattle.kde.specs.declared.Outcome.the-variants.{Accepted, Refused}
+use Rattle.columns.specs.declared.Outcome.{Outcome}
+use Rattle.columns.specs.declared.Outcome.the-variants.{Accepted, Refused}
 use Rattle.kde.specs.Answers.{inRange, lengthsAsked, after, asked, given}
 
 pub record InRange (bins : ℕ) : Type 0 where

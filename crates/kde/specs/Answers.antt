@@ -6,8 +6,8 @@ use lib.Dec.{leb}
 use lib.Ieee.{Float, nan}
 use Rattle.columns.specs.Refusals.{numberOf, longest}
 use Rattle.columns.specs.declared.Refusal.the-variants.{TooLong, WrongLength, OutOfRange}
-use Rattle.kde.specs.declared.Outcome.{Outcome}
-use Rattle.kde.specs.declared.Outcome.the-variants.{Accepted, Refused}
+use Rattle.columns.specs.declared.Outcome.{Outcome}
+use Rattle.columns.specs.declared.Outcome.the-variants.{Accepted, Refused}
 use Rattle.kde.specs.declared.Built.{Built}
 use Rattle.kde.specs.declared.Built.the-variants as built
 use Rattle.kde.specs.declared.Posterior.{Posterior}
@@ -41,10 +41,6 @@ given Accepted a b = a
 given (Refused r) a b = b
 
 -- ---- numbers and values
-
-abbrev pub outcomeNumber : Outcome → ℕ
-outcomeNumber Accepted = 0
-outcomeNumber (Refused r) = numberOf r
 
 abbrev pub builtNumber : Built → ℕ
 builtNumber (built.Made e) = 0

@@ -5,14 +5,15 @@ use mathlib.Core.List.{List, [], _∷_}
 use mathlib.Core.Path.{_≡_}
 use Prim.Native.Nat.{ℕ, _+_, _-_, _≤_}
 use lib.Dec.{eqb}
-use lib.IntN.{ℤ, pos, negsuc}
+use lib.IntN.{ℤ, pos}
 use lib.ListN.{length, getD}
 use lib.Ieee.{Float, nan, fin, binary64, ofBits, ofInt, neg, add, sub, mul, div}
 use Rattle.folds.specs.Columns.{filled, tabulated}
 use Rattle.columns.specs.Refusals.{longest}
+use Rattle.counting.specs.Labels.{decoys}
 use Rattle.floats.specs.Least.{lesser, greater}
-use Rattle.kde.specs.declared.Outcome.{Outcome}
-use Rattle.kde.specs.declared.Outcome.the-variants.{Accepted, Refused}
+use Rattle.columns.specs.declared.Outcome.{Outcome}
+use Rattle.columns.specs.declared.Outcome.the-variants.{Accepted, Refused}
 use Rattle.kde.specs.declared.Estimator.{Estimator}
 use Rattle.kde.specs.declared.Builder.{Builder}
 use Rattle.kde.specs.declared.Built.{Built}
@@ -81,11 +82,6 @@ unfoldable pub howMany : {A : Type 0} → (A → Bool) → List A → ℕ
 howMany p [] = 0
 howMany p (a ∷ l) = cond (p a) 1 0 + howMany p l
 
--- "A label is a signed 32-bit number: −1 is a decoy, every other number a target."
-abbrev pub isDecoy : ℤ → Bool
-isDecoy (pos n) = false
-isDecoy (negsuc n) = eqb n 0
-
 -- the share of decoys, pi
 abbrev pub decoyShare : ℕ → ℕ → Float
 decoyShare decoys part = div binary64 (ofInt binary64 (pos decoys)) (ofInt binary64 (pos part))
@@ -149,8 +145,8 @@ binsWritten builder listed decoys part decoyDensity targetDensity column =
 
 -- Over labels every row takes part.
 unfoldable pub labelBins : Builder → List ℤ → List Float → List Float → List Float → List Float
-unfolding binsWritten howMany
-labelBins builder labels = binsWritten builder (length labels) (howMany isDecoy labels) (length labels)
+unfolding binsWritten decoys
+labelBins builder labels = binsWritten builder (length labels) (decoys labels) (length labels)
 
 -- Over a competition's is_decoy, "1 or 0, a 32-bit number", the slots that hold neither, as an unseen slot does, take no part.
 unfoldable pub slotBins : Builder → List ℕ → List Float → List Float → List Float → List Float

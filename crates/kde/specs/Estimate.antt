@@ -9,7 +9,7 @@ use lib.Ieee.{Float, nan, binary64, toUnsigned, add, sub, mul, div}
 use Rattle.folds.specs.Columns.{filled}
 use Rattle.floats.specs.Whole.{floored}
 use Rattle.columns.specs.declared.Refusal.the-variants.{OutOfRange}
-use Rattle.kde.specs.declared.Outcome.{Outcome}
+use Rattle.columns.specs.declared.Outcome.{Outcome}
 use Rattle.kde.specs.declared.Estimator.{Estimator}
 use Rattle.kde.specs.declared.Posterior.{Posterior}
 use Rattle.kde.specs.declared.Posterior.the-variants.{Error, Refused}

@@ -9,7 +9,7 @@ use lib.ListN.{length}
 use lib.Ieee.{Float, nan, inf, fin, binary32}
 use Rattle.folds.specs.Columns.{filled}
 use Rattle.floats.specs.Convert.{converted}
-use Rattle.kde.specs.declared.Outcome.{Outcome}
+use Rattle.columns.specs.declared.Outcome.{Outcome}
 use Rattle.kde.specs.Answers.{lengthsAsked, given}
 
 abbrev pub finiteLog : Float → Float

@@ -10,10 +10,11 @@ ghost use mathlib.Core.List.{map};
 ghost use lib.Ieee.{fin, lt};
 ghost use Rattle.folds.specs.Columns.{tabulated};
 ghost use Rattle.kde.specs.Answers.{inRange, lengthsAsked, asked};
-ghost use Rattle.kde.specs.Bins.{freshBuilder, leastScore, greatestScore, estimatorOf, binScore, binScoresAnswer, binScoresColumn, howMany, isDecoy, mixed, raised, Ready, binsOf, binsAsked, labelBins, slotBins};
+ghost use Rattle.kde.specs.Bins.{freshBuilder, leastScore, greatestScore, estimatorOf, binScore, binScoresAnswer, binScoresColumn, howMany, mixed, raised, Ready, binsOf, binsAsked, labelBins, slotBins};
 ghost use Rattle.kde.specs.Estimate.{stepsUp, posteriorError, posteriorAnswer, errorsAnswer, errorsColumn};
 ghost use Rattle.kde.specs.Tolerances.{countAnswer, binsAcross, binCountAnswer};
 ghost use Rattle.kde.specs.LogErrors.{logError, logErrorsAnswer, logErrorsColumn};
+use columns::Outcome;
 use columns::Refusal;
 
 // The most bins that question 3 lets pass.
@@ -58,12 +59,6 @@ impl Builder {
 pub struct Estimator {
     pub min_score: f64,
     pub score_step: f64,
-}
-
-// The answer of a call that fills a lent column.
-pub enum Outcome {
-    Accepted,
-    Refused(Refusal),
 }
 
 pub enum Built {
@@ -174,18 +169,6 @@ pub fn bin_scores(builder: Builder, scores: &[f64], bin_scores: &mut [f64]) -> B
     }
 }
 
-fn count_decoys(labels: &[i32]) -> usize
-    ensures { λ r. ⌜ r ≡ howMany isDecoy (now (labels .entry)) ⌝ }
-{
-    let mut decoys: usize = 0;
-    let mut i = 0;
-    while i < labels.len() {
-        decoys += (labels[i] == -1) as usize;
-        i += 1;
-    }
-    decoys
-}
-
 fn count_flags(flags: &[u32], flag: u32) -> usize
     ensures { λ r. ⌜ r ≡ howMany (λ n. eqb n flag) (now (flags .entry)) ⌝ }
 {
@@ -268,7 +251,7 @@ pub fn posterior_bins(
             Outcome::Refused(refusal)
         }
         Outcome::Accepted => {
-            let decoys = count_decoys(labels);
+            let decoys = counting::count_decoys(labels);
             build_bins(
                 builder,
                 decoys,

@@ -12,7 +12,7 @@ use Rattle.folds.proofs.Columns.{Writing, writing-done}
 use Rattle.columns.specs.declared.Refusal.{Refusal}
 use Rattle.columns.specs.declared.Refusal.the-variants.{TooLong, WrongLength, NotFinite}
 use Rattle.columns.specs.Refusals.{longest}
-use Rattle.linear_discriminant.specs.declared.Scored.the-variants.{Scores, Refused}
+use Rattle.columns.specs.declared.Outcome.the-variants.{Accepted, Refused}
 use Rattle.linear_discriminant.specs.Scores.{Run, ran, blankRun, allFinite, scoreAt, narrowAt, scoresRun, scoredRows}
 
 pub blanked : (reason : Refusal) (scores₀ narrowed₀ : List Float) {scores narrowed : List Float}
@@ -24,7 +24,7 @@ blanked reason scores₀ narrowed₀ s n = rw (s, n)
 
 pub all-scored : (coefficients features : List Float) {rows from : ℕ} {scores narrowed : List Float}
     → Writing (scoreAt coefficients features) nan rows scores from → Writing (narrowAt coefficients features) nan rows narrowed from → rows ≤ from
-    → ran Scores scores narrowed ≡ scoresRun coefficients features rows
+    → ran Accepted scores narrowed ≡ scoresRun coefficients features rows
 all-scored coefficients features s n h = rw (writing-done s h, writing-done n h)
 
 -- ---- the questions, in their order

@@ -10,16 +10,11 @@ use Rattle.folds.specs.Walks.{every}
 use Rattle.folds.specs.Columns.{filled, tabulated}
 use Rattle.columns.specs.declared.Refusal.{Refusal}
 use Rattle.columns.specs.declared.Refusal.the-variants.{TooLong, WrongLength, NotFinite}
-use Rattle.columns.specs.Refusals.{longest, numberOf}
+use Rattle.columns.specs.Refusals.{longest}
 use Rattle.floats.specs.Convert.{converted}
-use Rattle.linear_discriminant.specs.declared.Scored.{Scored}
-use Rattle.linear_discriminant.specs.declared.Scored.the-variants.{Scores, Refused}
+use Rattle.columns.specs.declared.Outcome.{Outcome}
+use Rattle.columns.specs.declared.Outcome.the-variants.{Accepted, Refused}
 use Rattle.linear_discriminant.specs.Rows.{feature, scored}
-
--- 0 where the run accepts, else the question's number
-abbrev pub scoredNumber : Scored → ℕ
-scoredNumber Scores = 0
-scoredNumber (Refused reason) = numberOf reason
 
 -- is_finite
 abbrev pub isFinite : Float → Bool
@@ -33,11 +28,11 @@ allFinite coefficients = every (λ j. isFinite (getD coefficients j nan)) 20
 
 -- what a run leaves: its answer and its two result columns
 pub record Run : Type 0 where
-  pub answer : Scored
+  pub answer : Outcome
   pub scores : List Float
   pub narrowed : List Float
 
-abbrev pub ran : Scored → List Float → List Float → Run
+abbrev pub ran : Outcome → List Float → List Float → Run
 ran answer scores narrowed = record { answer = answer; scores = scores; narrowed = narrowed }
 
 -- the score of row i, and the f32 nearest to it
@@ -52,7 +47,7 @@ abbrev pub blankRun : Refusal → List Float → List Float → Run
 blankRun reason scores narrowed = ran (Refused reason) (filled nan scores) (filled nan narrowed)
 
 abbrev pub scoresRun : List Float → List Float → ℕ → Run
-scoresRun coefficients features rows = ran Scores (tabulated (scoreAt coefficients features) 0 rows) (tabulated (narrowAt coefficients features) 0 rows)
+scoresRun coefficients features rows = ran Accepted (tabulated (scoreAt coefficients features) 0 rows) (tabulated (narrowAt coefficients features) 0 rows)
 
 -- Question 1 is asked of the features: "a feature column is too long above 335,544,300 numbers. Result … columns are judged by question 2".
 -- The run has no labels, so the scores' length says how many rows there are; question 2 asks twenty features and one narrowed score for each.

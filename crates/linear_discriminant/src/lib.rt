@@ -7,13 +7,13 @@ ghost use lib.Dec.{eqb};
 ghost use lib.ListN.{length, getD, replicate};
 ghost use lib.Ieee.{nan, binary32};
 ghost use Rattle.columns.specs.Refusals.{longest};
-ghost use Rattle.counting.specs.Labels.{decoys};
 ghost use Rattle.floats.specs.Convert.{converted};
 ghost use Rattle.linear_discriminant.specs.Rows.{nought, scored};
 ghost use Rattle.linear_discriminant.specs.Blocks.{written};
-ghost use Rattle.linear_discriminant.specs.Scores.{scoredNumber, isFinite, allFinite, scoreAt, blankRun, ran, scoresRun, scoredRows};
+ghost use Rattle.linear_discriminant.specs.Scores.{isFinite, allFinite, scoreAt, blankRun, ran, scoresRun, scoredRows};
 ghost use Rattle.linear_discriminant.specs.Fit.{classOf, blankModel, modelOf, trainedNumber, asFloat, fitted, trained};
 ghost use Rattle.linear_discriminant.specs.Passes.{addedRow, summedRows, meanOf, centredRow, pairAdded, keptAdded, halves, width, placeOf, scatterOf, withinRow, withinTable, lessRow, fittedWith};
+use columns::Outcome;
 use columns::Refusal;
 use gauss::Solution;
 use gauss::Solved;
@@ -65,17 +65,6 @@ fn class_of(label: i32) -> usize
     ensures { λ r. ⌜ (r ≡ classOf label) × (r < 2) ⌝ }
 {
     (label != -1) as usize
-}
-
-// How many labels are decoys.
-fn count_decoys(labels: &[i32]) -> usize
-    ensures { λ r. ⌜ r ≡ decoys (now (labels .entry)) ⌝ }
-{
-    let mut count: usize = 0;
-    for i in 0..labels.len() {
-        count += 1 - class_of(labels[i]);
-    }
-    count
 }
 
 // A class's sums with row i added. The new sums are an array of their own, so that the compiler may add several at a time.
@@ -311,7 +300,7 @@ fn fit(features: &[f64], labels: &[i32]) -> Model
     requires { ⌜ (length (now labels) ≤ longest) × (length (now features) ≡ 20 * length (now labels)) ⌝ }
     ensures { λ r. ⌜ r ≡ fitted (now (features .entry)) (now (labels .entry)) ⌝ }
 {
-    let decoys = count_decoys(labels);
+    let decoys = counting::count_decoys(labels);
     let targets = labels.len() - decoys;
     if decoys == 0 {
         return blank_model(Refusal::OneClass);
@@ -347,22 +336,6 @@ pub fn score(coefficients: &[f64; 20], row: &[f64; 20]) -> f64
         sum += coefficients[j] * row[j];
     }
     sum
-}
-
-// The answer of a scoring run.
-pub enum Scored {
-    Scores,
-    Refused(Refusal),
-}
-
-// 0 where the run accepts, else the question's number.
-pub fn scored_number(answer: Scored) -> u32
-    ensures { λ r. ⌜ r ≡ scoredNumber answer ⌝ }
-{
-    match answer {
-        Scored::Scores => 0,
-        Scored::Refused(reason) => columns::number(reason),
-    }
 }
 
 // is_finite.
@@ -427,7 +400,7 @@ fn block_end(from: usize, rows: usize) -> usize
 // Every row's score, and the score narrowed, block by block.
 fn score_all(coefficients: &[f64; 20], features: &[f64], scores: &mut [f64], narrowed: &mut [f32])
     requires { ⌜ (length (now features) ≡ 20 * length (now scores)) × (length (now narrowed) ≡ length (now scores)) ⌝ }
-    ensures { λ _. ⌜ ran Scored.Scores (now (scores .exit)) (now (narrowed .exit))
+    ensures { λ _. ⌜ ran Outcome.Accepted (now (scores .exit)) (now (narrowed .exit))
         ≡ scoresRun (now (coefficients .entry)) (now (features .entry)) (length (now (scores .entry))) ⌝ }
 {
     let rows = scores.len();
@@ -441,12 +414,12 @@ fn score_all(coefficients: &[f64; 20], features: &[f64], scores: &mut [f64], nar
 }
 
 // A refusal: NaN in every place of both result columns.
-fn blank_run(reason: Refusal, scores: &mut [f64], narrowed: &mut [f32]) -> Scored
+fn blank_run(reason: Refusal, scores: &mut [f64], narrowed: &mut [f32]) -> Outcome
     ensures { λ r. ⌜ ran r (now (scores .exit)) (now (narrowed .exit)) ≡ blankRun reason (now (scores .entry)) (now (narrowed .entry)) ⌝ }
 {
     columns::fill_f64(scores, 0.0 / 0.0);
     columns::fill_f32(narrowed, 0.0 / 0.0);
-    Scored::Refused(reason)
+    Outcome::Refused(reason)
 }
 
 // The scoring run: each row's score as f64 and narrowed to f32. `scores` says how many rows there are.
@@ -455,7 +428,7 @@ pub fn score_rows(
     features: &[f64],
     scores: &mut [f64],
     narrowed: &mut [f32],
-) -> Scored
+) -> Outcome
     ensures { λ r. ⌜ ran r (now (scores .exit)) (now (narrowed .exit))
         ≡ scoredRows (now (coefficients .entry)) (now (features .entry)) (now (scores .entry)) (now (narrowed .entry)) ⌝ }
 {
@@ -472,5 +445,5 @@ pub fn score_rows(
         return blank_run(Refusal::NotFinite, scores, narrowed);
     }
     score_all(coefficients, features, scores, narrowed);
-    Scored::Scores
+    Outcome::Accepted
 }

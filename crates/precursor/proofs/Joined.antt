@@ -27,8 +27,8 @@ use Rattle.ranking.specs.Ranking.{Row, ranked}
 use Rattle.ranking.specs.Keys.{packed, sorted}
 use Rattle.ranking.proofs.Ranks.{Fitting as Fits, Rising, packedFrom, sorted-ranks}
 use Rattle.floats.proofs.Narrowed.{converted-fits}
-use Rattle.precursor.specs.declared.Ranked.{Ranked}
-use Rattle.precursor.specs.declared.Ranked.the-variants.{Ranks, NoRanks}
+use Rattle.columns.specs.declared.Outcome.{Outcome}
+use Rattle.columns.specs.declared.Outcome.the-variants as outcome
 use Rattle.precursor.specs.Precursors.{rankedRows, asRanked, rankOf, precursorQ, targetsAtMost, Fitting, asked, accepts, precursorAnswer, precursorColumn, precursorRanks, ranksAnswer, ranksColumn}
 use Rattle.precursor.specs.Packed.{along, placeOf, labelOf, labelsOf, rowKey, packedRows, packedScores, scattered}
 use Rattle.precursor.proofs.Places.{Each, none, one, Keyed, no-key, key, in-list, length-ranked, has-row, scattered-is}
@@ -307,34 +307,34 @@ sortable-scores scores spare keys₁ e k = e ∙ sym (ap length k ∙ length-tab
 
 -- ---- the answers of `precursor_ranks`
 
-pub record RanksTold (scores : List Float) (keys₀ spare₀ ranks₀ : List ℕ) (r : Ranked) (ranks : List ℕ) : Type 0 where
+pub record RanksTold (scores : List Float) (keys₀ spare₀ ranks₀ : List ℕ) (r : Outcome) (ranks : List ℕ) : Type 0 where
   pub answer : r ≡ ranksAnswer (length scores) (length keys₀) (length spare₀) (length ranks₀)
   pub column : ranks ≡ ranksColumn scores (length keys₀) (length spare₀) ranks₀
 
 module _ (scores : List Float) (keys₀ spare₀ ranks₀ : List ℕ) where
   ranks-by-tests : (a b : Bool) → leb (length scores) longest ≡ a
       → eqb (length keys₀) (length scores) && (eqb (length spare₀) (length scores) && eqb (length ranks₀) (length scores)) ≡ b
-      → (r : Ranked) (ranks : List ℕ) → r ≡ cond a (cond b Ranks (NoRanks WrongLength)) (NoRanks TooLong)
+      → (r : Outcome) (ranks : List ℕ) → r ≡ cond a (cond b outcome.Accepted (outcome.Refused WrongLength)) (outcome.Refused TooLong)
       → ranks ≡ cond a (cond b (precursorRanks scores) (filled 4294967295 ranks₀)) (filled 4294967295 ranks₀)
       → RanksTold scores keys₀ spare₀ ranks₀ r ranks
   unfolding ranksAnswer ranksColumn
   ranks-by-tests a b s t r ranks e f = record {
-    answer = e ∙ sym (ap₂ (λ (x y : Bool). cond x (cond y Ranks (NoRanks WrongLength)) (NoRanks TooLong)) s t);
+    answer = e ∙ sym (ap₂ (λ (x y : Bool). cond x (cond y outcome.Accepted (outcome.Refused WrongLength)) (outcome.Refused TooLong)) s t);
     column = f ∙ sym (ap₂ (λ (x y : Bool). cond x (cond y (precursorRanks scores) (filled 4294967295 ranks₀)) (filled 4294967295 ranks₀)) s t);
   }
 
-  pub ranks-too-long : (ranks : List ℕ) → longest < length scores → ranks ≡ filled 4294967295 ranks₀ → RanksTold scores keys₀ spare₀ ranks₀ (NoRanks TooLong) ranks
-  ranks-too-long ranks s e = ranks-by-tests false _ (lt-leb (length scores) longest s) refl (NoRanks TooLong) ranks refl e
+  pub ranks-too-long : (ranks : List ℕ) → longest < length scores → ranks ≡ filled 4294967295 ranks₀ → RanksTold scores keys₀ spare₀ ranks₀ (outcome.Refused TooLong) ranks
+  ranks-too-long ranks s e = ranks-by-tests false _ (lt-leb (length scores) longest s) refl (outcome.Refused TooLong) ranks refl e
 
   pub ranks-wrong : (ranks : List ℕ) → length scores ≤ longest
       → eqb (length keys₀) (length scores) && (eqb (length spare₀) (length scores) && eqb (length ranks₀) (length scores)) ≡ false
-      → ranks ≡ filled 4294967295 ranks₀ → RanksTold scores keys₀ spare₀ ranks₀ (NoRanks WrongLength) ranks
-  ranks-wrong ranks s t e = ranks-by-tests true false (le-leb (length scores) longest s) t (NoRanks WrongLength) ranks refl e
+      → ranks ≡ filled 4294967295 ranks₀ → RanksTold scores keys₀ spare₀ ranks₀ (outcome.Refused WrongLength) ranks
+  ranks-wrong ranks s t e = ranks-by-tests true false (le-leb (length scores) longest s) t (outcome.Refused WrongLength) ranks refl e
 
   pub ranks-fine : (ranks : List ℕ) → length scores ≤ longest
       → eqb (length keys₀) (length scores) && (eqb (length spare₀) (length scores) && eqb (length ranks₀) (length scores)) ≡ true
-      → ranks ≡ precursorRanks scores → RanksTold scores keys₀ spare₀ ranks₀ Ranks ranks
-  ranks-fine ranks s t e = ranks-by-tests true true (le-leb (length scores) longest s) t Ranks ranks refl e
+      → ranks ≡ precursorRanks scores → RanksTold scores keys₀ spare₀ ranks₀ outcome.Accepted ranks
+  ranks-fine ranks s t e = ranks-by-tests true true (le-leb (length scores) longest s) t outcome.Accepted ranks refl e
 
   pub ranks-pass : length scores ≤ longest
       → eqb (length keys₀) (length scores) && (eqb (length spare₀) (length scores) && eqb (length ranks₀) (length scores)) ≡ true

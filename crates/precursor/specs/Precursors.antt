@@ -9,12 +9,12 @@ use lib.IntN.{ℤ, pos}
 use lib.ListN.{length, getD}
 use lib.Ieee.{Float, nan, binary32, le}
 use Rattle.folds.specs.Columns.{filled, tabulated}
-use Rattle.columns.specs.Refusals.{longest, numberOf}
+use Rattle.columns.specs.Refusals.{longest}
 use Rattle.columns.specs.declared.Counted.{Counted}
 use Rattle.columns.specs.declared.Counted.the-variants.{Passing, Refused}
 use Rattle.columns.specs.declared.Refusal.the-variants.{TooLong, WrongLength}
-use Rattle.precursor.specs.declared.Ranked.{Ranked}
-use Rattle.precursor.specs.declared.Ranked.the-variants.{Ranks, NoRanks}
+use Rattle.columns.specs.declared.Outcome.{Outcome}
+use Rattle.columns.specs.declared.Outcome.the-variants as outcome
 use Rattle.floats.specs.Convert.{converted}
 use Rattle.floats.specs.Ratio.{oneIn}
 use Rattle.counting.specs.Labels.{isDecoy}
@@ -83,11 +83,11 @@ unfoldable pub precursorRanks : List Float → List ℕ
 precursorRanks scores = tabulated (λ place. suc (rankOf (rankedRows scores) place)) 0 (length scores)
 
 -- the same questions of the call that gives ranks: one input column, two working columns and the result
-unfoldable pub ranksAnswer : ℕ → ℕ → ℕ → ℕ → Ranked
+unfoldable pub ranksAnswer : ℕ → ℕ → ℕ → ℕ → Outcome
 ranksAnswer scores keys spare ranks =
     cond (leb scores longest)
-    (cond (eqb keys scores && (eqb spare scores && eqb ranks scores)) Ranks (NoRanks WrongLength))
-    (NoRanks TooLong)
+    (cond (eqb keys scores && (eqb spare scores && eqb ranks scores)) outcome.Accepted (outcome.Refused WrongLength))
+    (outcome.Refused TooLong)
 
 -- its column afterwards: the ranks, or 4,294,967,295 in every place
 unfoldable pub ranksColumn : List Float → ℕ → ℕ → List ℕ → List ℕ
@@ -95,8 +95,3 @@ ranksColumn scores keys spare ranks =
     cond (leb (length scores) longest)
     (cond (eqb keys (length scores) && (eqb spare (length scores) && eqb (length ranks) (length scores))) (precursorRanks scores) (filled 4294967295 ranks))
     (filled 4294967295 ranks)
-
--- "A refusal returns its number"; a call that accepts returns 0.
-abbrev pub rankedNumber : Ranked → ℕ
-rankedNumber Ranks = 0
-rankedNumber (NoRanks r) = numberOf r

@@ -10,9 +10,10 @@ ghost use Rattle.columns.specs.Refusals.{longest};
 ghost use Rattle.floats.specs.Ratio.{oneIn};
 ghost use Rattle.counting.specs.Labels.{isDecoy, decoys};
 ghost use Rattle.counting.specs.QValues.{qValues};
-ghost use Rattle.precursor.specs.Precursors.{asRanked, targetsAtMost, precursorQ, Fitting, precursorAnswer, precursorColumn, precursorRanks, ranksAnswer, ranksColumn, rankedNumber};
+ghost use Rattle.precursor.specs.Precursors.{asRanked, targetsAtMost, precursorQ, Fitting, precursorAnswer, precursorColumn, precursorRanks, ranksAnswer, ranksColumn};
 ghost use Rattle.precursor.specs.Packed.{packedRows, packedScores, labelsOf, placeOf, scattered};
 use columns::Counted;
+use columns::Outcome;
 use columns::Refusal;
 
 // 1 for a decoy, 0 for a target.
@@ -185,12 +186,6 @@ fn write_ranks(keys: &[u64], ranks: &mut [u32])
     }
 }
 
-// The answer of the call that gives ranks.
-pub enum Ranked {
-    Ranks,
-    NoRanks(Refusal),
-}
-
 // The rows ranked, and their ranks at their places.
 fn rank(scores: &[f64], keys: &mut [u64], spare: &mut [u64], ranks: &mut [u32])
     requires { ⌜ Fitting (length (now scores)) (length (now scores)) (length (now keys)) (length (now spare)) (length (now ranks)) ⌝ }
@@ -220,7 +215,7 @@ pub fn precursor_ranks(
     keys: &mut [u64],
     spare: &mut [u64],
     ranks: &mut [u32],
-) -> Ranked
+) -> Outcome
     ensures answer { λ r. ⌜ r ≡ ranksAnswer (length (now (scores .entry))) (length (now (keys .entry))) (length (now (spare .entry))) (length (now (ranks .entry))) ⌝ }
     ensures column { λ _. ⌜ now (ranks .exit) ≡ ranksColumn (now (scores .entry)) (length (now (keys .entry))) (length (now (spare .entry))) (now (ranks .entry)) ⌝ }
     ensures keys { λ _. ⌜ now (keys .exit) ≡ filled 0 (now (keys .entry)) ⌝ }
@@ -228,22 +223,12 @@ pub fn precursor_ranks(
 {
     if columns::LONGEST < scores.len() {
         blank_ranks(keys, spare, ranks);
-        return Ranked::NoRanks(Refusal::TooLong);
+        return Outcome::Refused(Refusal::TooLong);
     }
     if !columns_fit(scores.len(), keys.len(), spare.len(), ranks.len()) {
         blank_ranks(keys, spare, ranks);
-        return Ranked::NoRanks(Refusal::WrongLength);
+        return Outcome::Refused(Refusal::WrongLength);
     }
     rank(scores, keys, spare, ranks);
-    Ranked::Ranks
-}
-
-// 0 where the call accepts, else the question's number.
-pub fn ranked_number(answer: Ranked) -> u32
-    ensures { λ r. ⌜ r ≡ rankedNumber answer ⌝ }
-{
-    match answer {
-        Ranked::Ranks => 0,
-        Ranked::NoRanks(refusal) => columns::number(refusal),
-    }
+    Outcome::Accepted
 }

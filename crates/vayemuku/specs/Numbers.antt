@@ -1,6 +1,6 @@
 -- The numbers that stand for an answer's cases where C and Rust call.
 use mathlib.Core.List.{List}
-use mathlib.Core.Bool.{cond}
+use mathlib.Core.Bool.{not, cond}
 use Prim.Native.Nat.{ℕ}
 use lib.Dec.{leb, eqb}
 use lib.IntN.{ℤ, pos, negsuc}
@@ -10,6 +10,11 @@ use Rattle.columns.specs.Refusals.{longest, numberOf}
 use Rattle.line_check.specs.declared.Line.{Line}
 use Rattle.line_check.specs.declared.Line.the-variants.{Right, Wrong, Refused}
 use Rattle.ranking.specs.Keys.{sorted}
+use Rattle.kde.specs.declared.Builder.{Builder}
+use Rattle.kde.specs.declared.Estimator.{Estimator}
+use Rattle.kde.specs.declared.Tolerance.{Tolerance}
+use Rattle.kde.specs.declared.Tolerance.the-variants.{Ppm, Da, Pct}
+use lib.Ieee.{Float}
 use Rattle.vayemuku.specs.declared.LineNumbers.{LineNumbers}
 use Rattle.floats.specs.declared.Ordering.{Ordering}
 use Rattle.floats.specs.declared.Ordering.the-variants.{Less, Equal, Greater}
@@ -32,3 +37,14 @@ keysNumber keys spare = cond (leb keys longest) (cond (eqb spare keys) 0 2) 1
 
 unfoldable pub keysColumn : List ℕ → ℕ → List ℕ
 keysColumn keys spare = cond (leb (length keys) longest) (cond (eqb spare (length keys)) (sorted keys) (filled 0 keys)) (filled 0 keys)
+
+-- A builder's flag as a number: any but 0 asks for monotonic bins.
+abbrev pub builderOf : ℕ → ℕ → Builder
+builderOf monotonic bins = record { monotonic = not (eqb monotonic 0); bins = bins }
+
+abbrev pub estimatorOf : Float → Float → Estimator
+estimatorOf least step = record { «min_score» = least; «score_step» = step }
+
+-- A tolerance's unit as a number: 0 is ppm, 1 is Da; any other is none that question 4 lets pass.
+abbrev pub toleranceOf : ℕ → Float → Float → Tolerance
+toleranceOf unit lo hi = cond (eqb unit 0) (Ppm lo hi) (cond (eqb unit 1) (Da lo hi) (Pct lo hi))

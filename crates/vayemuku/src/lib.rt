@@ -1,21 +1,35 @@
 // Every call of the port, for C and Rust to link: thin functions over the proved crates, with their contracts. The declarations
 // for C are in include/vayemuku.h.
 ghost use mathlib.Core.Path.{_≡_};
-ghost use lib.Ieee.{binary32, binary64, toUnsigned};
+ghost use lib.Ieee.{nan, binary32, binary64, toUnsigned};
 ghost use Rattle.floats.specs.Convert.{converted};
 ghost use Rattle.floats.specs.Whole.{floored, ceiled};
 ghost use Rattle.floats.specs.Least.{lesser, greater};
 ghost use Rattle.floats.specs.TotalOrder.{compared, orderKey};
-ghost use lib.ListN.{length};
+ghost use lib.ListN.{length, getD};
 ghost use Rattle.folds.specs.Columns.{filled};
-ghost use Rattle.columns.specs.Refusals.{countedNumber, countedCount};
+ghost use Rattle.columns.specs.Refusals.{outcomeNumber, countedNumber, countedCount};
 ghost use Rattle.qvalue.specs.Spectrum.{spectrumAnswer, spectrumColumn};
 ghost use Rattle.gauss.specs.Solutions.{solution, solvedNumber};
+ghost use Rattle.linear_discriminant.specs.Rows.{scored};
+ghost use Rattle.linear_discriminant.specs.Fit.{trained, trainedNumber};
+ghost use Rattle.linear_discriminant.specs.Scores.{scoredRows};
+ghost use Rattle.kde.specs.Answers.{builtNumber, builtLeast, builtStep, posteriorNumber, posteriorValue, binCountNumber, binCountBins};
+ghost use Rattle.kde.specs.Bins.{binScoresAnswer, binScoresColumn, binsAsked, labelBins, slotBins};
+ghost use Rattle.kde.specs.Estimate.{posteriorAnswer, errorsAnswer, errorsColumn};
+ghost use Rattle.kde.specs.Tolerances.{binCountAnswer};
+ghost use Rattle.kde.specs.LogErrors.{logError, logErrorsAnswer, logErrorsColumn};
 ghost use Rattle.line_check.specs.Check.{lineAnswer};
-ghost use Rattle.precursor.specs.Precursors.{precursorAnswer, precursorColumn, ranksAnswer, ranksColumn, rankedNumber};
-ghost use Rattle.vayemuku.specs.Numbers.{signOf, numbersOf, keysNumber, keysColumn};
+ghost use Rattle.precursor.specs.Precursors.{precursorAnswer, precursorColumn, ranksAnswer, ranksColumn};
+ghost use Rattle.vayemuku.specs.Numbers.{signOf, numbersOf, keysNumber, keysColumn, toleranceOf, builderOf, estimatorOf};
 use floats::Ordering;
 use gauss::Solved;
+use kde::BinCount;
+use kde::Builder;
+use kde::Built;
+use kde::Estimator;
+use kde::Posterior;
+use kde::Tolerance;
 use line_check::Line;
 use line_check::Rate;
 
@@ -208,12 +222,12 @@ pub extern "C" fn vayemuku_precursor_ranks(
     spare: &mut [u64],
     ranks: &mut [u32],
 ) -> u32
-    ensures number { λ r. ⌜ r ≡ rankedNumber (ranksAnswer (length (now (scores .entry))) (length (now (keys .entry))) (length (now (spare .entry))) (length (now (ranks .entry)))) ⌝ }
+    ensures number { λ r. ⌜ r ≡ outcomeNumber (ranksAnswer (length (now (scores .entry))) (length (now (keys .entry))) (length (now (spare .entry))) (length (now (ranks .entry)))) ⌝ }
     ensures keys { λ _. ⌜ now (keys .exit) ≡ filled 0 (now (keys .entry)) ⌝ }
     ensures spare { λ _. ⌜ now (spare .exit) ≡ filled 0 (now (spare .entry)) ⌝ }
     ensures column { λ _. ⌜ now (ranks .exit) ≡ ranksColumn (now (scores .entry)) (length (now (keys .entry))) (length (now (spare .entry))) (now (ranks .entry)) ⌝ }
 {
-    precursor::ranked_number(precursor::precursor_ranks(scores, keys, spare, ranks))
+    columns::outcome_number(precursor::precursor_ranks(scores, keys, spare, ranks))
 }
 
 // The ranking alone: keys in ascending order, and 0 in `spare`. Refusals 1 and 2 leave 0 in both.
@@ -352,4 +366,268 @@ pub extern "C" fn vayemuku_solve(
     *values = numbers;
     let answer = solved.answer;
     solved_number(answer)
+}
+
+// Module 3, the discriminant.
+
+// `coefficients` gets the fit's twenty numbers, or twenty NaN.
+#[no_mangle]
+pub extern "C" fn vayemuku_train(
+    features: &[f64],
+    labels: &[i32],
+    coefficients: &mut [f64; 20],
+) -> u32
+    ensures number { λ r. ⌜ r ≡ trainedNumber (trained (now (features .entry)) (now (labels .entry)) .answer) ⌝ }
+    ensures coefficients { λ _. ⌜ now (coefficients .exit) ≡ trained (now (features .entry)) (now (labels .entry)) .coefficients ⌝ }
+{
+    let model = linear_discriminant::train(features, labels);
+    let numbers = model.coefficients;
+    *coefficients = numbers;
+    let answer = model.answer;
+    linear_discriminant::trained_number(answer)
+}
+
+// The score of one row.
+#[no_mangle]
+pub extern "C" fn vayemuku_score(coefficients: &[f64; 20], row: &[f64; 20]) -> f64
+    ensures { λ r. ⌜ r ≡ scored (now (coefficients .entry)) (λ j. getD (now (row .entry)) j nan) ⌝ }
+{
+    linear_discriminant::score(coefficients, row)
+}
+
+// Each row's score, and the score narrowed.
+#[no_mangle]
+pub extern "C" fn vayemuku_score_rows(
+    coefficients: &[f64; 20],
+    features: &[f64],
+    scores: &mut [f64],
+    narrowed: &mut [f32],
+) -> u32
+    ensures number { λ r. ⌜ r ≡ outcomeNumber (scoredRows (now (coefficients .entry)) (now (features .entry)) (now (scores .entry)) (now (narrowed .entry)) .answer) ⌝ }
+    ensures scores { λ _. ⌜ now (scores .exit) ≡ scoredRows (now (coefficients .entry)) (now (features .entry)) (now (scores .entry)) (now (narrowed .entry)) .scores ⌝ }
+    ensures narrowed { λ _. ⌜ now (narrowed .exit) ≡ scoredRows (now (coefficients .entry)) (now (features .entry)) (now (scores .entry)) (now (narrowed .entry)) .narrowed ⌝ }
+{
+    columns::outcome_number(linear_discriminant::score_rows(
+        coefficients,
+        features,
+        scores,
+        narrowed,
+    ))
+}
+
+// Module 4, posterior errors.
+
+fn built_number(answer: Built) -> u32
+    ensures { λ r. ⌜ r ≡ builtNumber answer ⌝ }
+{
+    match answer {
+        Built::Made(_) => 0,
+        Built::Refused(refusal) => columns::number(refusal),
+    }
+}
+
+// The estimator's two numbers, or two NaN.
+fn built_estimator(answer: Built) -> Estimator
+    ensures { λ r. ⌜ r ≡ estimatorOf (builtLeast answer) (builtStep answer) ⌝ }
+{
+    match answer {
+        Built::Made(estimator) => estimator,
+        Built::Refused(_) => Estimator {
+            min_score: 0.0 / 0.0,
+            score_step: 0.0 / 0.0,
+        },
+    }
+}
+
+// Step one: `min_score` and `score_step` get the estimator's numbers, and `bin_scores` the score of every bin.
+#[no_mangle]
+pub extern "C" fn vayemuku_bin_scores(
+    bins: usize,
+    scores: &[f64],
+    bin_scores: &mut [f64],
+    min_score: &mut f64,
+    score_step: &mut f64,
+) -> u32
+    ensures number { λ r. ⌜ r ≡ builtNumber (binScoresAnswer (builderOf 1 bins) (now (scores .entry)) (length (now («bin_scores» .entry)))) ⌝ }
+    ensures column { λ _. ⌜ now («bin_scores» .exit) ≡ binScoresColumn (builderOf 1 bins) (now (scores .entry)) (now («bin_scores» .entry)) ⌝ }
+    ensures least { λ _. ⌜ now («min_score» .exit) ≡ builtLeast (binScoresAnswer (builderOf 1 bins) (now (scores .entry)) (length (now («bin_scores» .entry)))) ⌝ }
+    ensures step { λ _. ⌜ now («score_step» .exit) ≡ builtStep (binScoresAnswer (builderOf 1 bins) (now (scores .entry)) (length (now («bin_scores» .entry)))) ⌝ }
+{
+    let builder = Builder {
+        monotonic: true,
+        bins,
+    };
+    let answer = kde::bin_scores(builder, scores, bin_scores);
+    let estimator = built_estimator(answer);
+    *min_score = estimator.min_score;
+    *score_step = estimator.score_step;
+    built_number(answer)
+}
+
+// Step two, over labels; any `monotonic` but 0 asks for monotonic bins.
+#[no_mangle]
+pub extern "C" fn vayemuku_posterior_bins(
+    monotonic: u32,
+    count: usize,
+    labels: &[i32],
+    decoy_density: &[f64],
+    target_density: &[f64],
+    bins: &mut [f64],
+) -> u32
+    ensures number { λ r. ⌜ r ≡ outcomeNumber (binsAsked (builderOf monotonic count) (length (now (labels .entry))) (length (now («decoy_density» .entry))) (length (now («target_density» .entry))) (length (now (bins .entry)))) ⌝ }
+    ensures column { λ _. ⌜ now (bins .exit) ≡ labelBins (builderOf monotonic count) (now (labels .entry)) (now («decoy_density» .entry)) (now («target_density» .entry)) (now (bins .entry)) ⌝ }
+{
+    let builder = Builder {
+        monotonic: monotonic != 0,
+        bins: count,
+    };
+    columns::outcome_number(kde::posterior_bins(
+        builder,
+        labels,
+        decoy_density,
+        target_density,
+        bins,
+    ))
+}
+
+// Step two, over a competition's slots.
+#[no_mangle]
+pub extern "C" fn vayemuku_slot_posterior_bins(
+    monotonic: u32,
+    count: usize,
+    is_decoy: &[u32],
+    decoy_density: &[f64],
+    target_density: &[f64],
+    bins: &mut [f64],
+) -> u32
+    ensures number { λ r. ⌜ r ≡ outcomeNumber (binsAsked (builderOf monotonic count) (length (now («is_decoy» .entry))) (length (now («decoy_density» .entry))) (length (now («target_density» .entry))) (length (now (bins .entry)))) ⌝ }
+    ensures column { λ _. ⌜ now (bins .exit) ≡ slotBins (builderOf monotonic count) (now («is_decoy» .entry)) (now («decoy_density» .entry)) (now («target_density» .entry)) (now (bins .entry)) ⌝ }
+{
+    let builder = Builder {
+        monotonic: monotonic != 0,
+        bins: count,
+    };
+    columns::outcome_number(kde::slot_posterior_bins(
+        builder,
+        is_decoy,
+        decoy_density,
+        target_density,
+        bins,
+    ))
+}
+
+fn posterior_number(answer: Posterior) -> u32
+    ensures { λ r. ⌜ r ≡ posteriorNumber answer ⌝ }
+{
+    match answer {
+        Posterior::Error(_) => 0,
+        Posterior::Refused(refusal) => columns::number(refusal),
+    }
+}
+
+fn posterior_value(answer: Posterior) -> f64
+    ensures { λ r. ⌜ r ≡ posteriorValue answer ⌝ }
+{
+    match answer {
+        Posterior::Error(x) => x,
+        Posterior::Refused(_) => 0.0 / 0.0,
+    }
+}
+
+// `error` gets the posterior error of a score, or NaN.
+#[no_mangle]
+pub extern "C" fn vayemuku_posterior_error(
+    min_score: f64,
+    score_step: f64,
+    bins: &[f64],
+    score: f64,
+    error: &mut f64,
+) -> u32
+    ensures number { λ r. ⌜ r ≡ posteriorNumber (posteriorAnswer (estimatorOf «min_score» «score_step») (now (bins .entry)) score) ⌝ }
+    ensures error { λ _. ⌜ now (error .exit) ≡ posteriorValue (posteriorAnswer (estimatorOf «min_score» «score_step») (now (bins .entry)) score) ⌝ }
+{
+    let estimator = Estimator {
+        min_score,
+        score_step,
+    };
+    let answer = kde::posterior_error(estimator, bins, score);
+    *error = posterior_value(answer);
+    posterior_number(answer)
+}
+
+// The posterior error of every score.
+#[no_mangle]
+pub extern "C" fn vayemuku_posterior_errors(
+    min_score: f64,
+    score_step: f64,
+    bins: &[f64],
+    scores: &[f64],
+    errors: &mut [f64],
+) -> u32
+    ensures number { λ r. ⌜ r ≡ outcomeNumber (errorsAnswer (now (bins .entry)) (now (scores .entry)) (length (now (errors .entry)))) ⌝ }
+    ensures column { λ _. ⌜ now (errors .exit) ≡ errorsColumn (estimatorOf «min_score» «score_step») (now (bins .entry)) (now (scores .entry)) (now (errors .entry)) ⌝ }
+{
+    let estimator = Estimator {
+        min_score,
+        score_step,
+    };
+    columns::outcome_number(kde::posterior_errors(estimator, bins, scores, errors))
+}
+
+// Unit 0 is ppm and 1 is Da; any other is refused as Pct is.
+fn tolerance(unit: u32, lo: f32, hi: f32) -> Tolerance
+    ensures { λ r. ⌜ r ≡ toleranceOf unit lo hi ⌝ }
+{
+    if unit == 0 {
+        return Tolerance::Ppm(lo, hi);
+    }
+    if unit == 1 {
+        return Tolerance::Da(lo, hi);
+    }
+    Tolerance::Pct(lo, hi)
+}
+
+fn bin_count_number(answer: BinCount) -> u32
+    ensures { λ r. ⌜ r ≡ binCountNumber answer ⌝ }
+{
+    match answer {
+        BinCount::Bins(_) => 0,
+        BinCount::Refused(refusal) => columns::number(refusal),
+    }
+}
+
+fn bin_count_bins(answer: BinCount) -> usize
+    ensures { λ r. ⌜ r ≡ binCountBins answer ⌝ }
+{
+    match answer {
+        BinCount::Bins(bins) => bins,
+        BinCount::Refused(_) => 0,
+    }
+}
+
+// `bins` gets the bin count for mass errors within a tolerance, or 0.
+#[no_mangle]
+pub extern "C" fn vayemuku_bin_count(unit: u32, lo: f32, hi: f32, bins: &mut usize) -> u32
+    ensures number { λ r. ⌜ r ≡ binCountNumber (binCountAnswer (toleranceOf unit lo hi)) ⌝ }
+    ensures bins { λ _. ⌜ now (bins .exit) ≡ binCountBins (binCountAnswer (toleranceOf unit lo hi)) ⌝ }
+{
+    let answer = kde::bin_count(tolerance(unit, lo, hi));
+    *bins = bin_count_bins(answer);
+    bin_count_number(answer)
+}
+
+// The host's log10 of a posterior error, narrowed, with -324.0 for an infinity.
+#[no_mangle]
+pub extern "C" fn vayemuku_log_error(log10: f64) -> f32
+    ensures { λ r. ⌜ r ≡ logError log10 ⌝ }
+{
+    kde::log_error(log10)
+}
+
+#[no_mangle]
+pub extern "C" fn vayemuku_log_errors(log10s: &[f64], errors: &mut [f32]) -> u32
+    ensures number { λ r. ⌜ r ≡ outcomeNumber (logErrorsAnswer (now (log10s .entry)) (length (now (errors .entry)))) ⌝ }
+    ensures column { λ _. ⌜ now (errors .exit) ≡ logErrorsColumn (now (log10s .entry)) (now (errors .entry)) ⌝ }
+{
+    columns::outcome_number(kde::log_errors(log10s, errors))
 }
