@@ -25,13 +25,13 @@ use Rattle.floats.specs.Ratio.{oneIn}
 use Rattle.floats.proofs.Ratio.{sharp-100, sharp-20}
 use Rattle.counting.specs.Labels.{isDecoy, targets}
 use Rattle.counting.specs.Lines.{qualifies, RightLine, rightLine}
-use Rattle.counting.specs.QValues.{qValues, atMost}
+use Rattle.counting.specs.QValues.{qValues, atMost, targetsAtMost}
 use Rattle.counting.proofs.Lines.{last-within, last-own, last-later, right-line, right-line-only}
 use Rattle.counting.proofs.QValues.{q-length, q-at-most, count-is-line}
 use Rattle.qvalue.specs.Spectrum.{spectrumAnswer, spectrumColumn}
 use Rattle.line_check.specs.Check.{perOf, countsAt, lineAnswer}
 use Rattle.line_check.specs.declared.Line.the-variants.{Right, Wrong}
-use Rattle.precursor.specs.Precursors.{rankedRows, asRanked, rankOf, precursorQ, targetsAtMost, asked, accepts, precursorAnswer, precursorColumn}
+use Rattle.precursor.specs.Precursors.{rankedRows, asRanked, rankOf, precursorQ, asked, accepts, precursorAnswer, precursorColumn}
 use Rattle.precursor.proofs.Places.{has-row}
 use Rattle.precursor.proofs.Joined.{length-as-ranked}
 use Rattle.agreement.specs.Demand3.{OneRight, Instead, Demand3}

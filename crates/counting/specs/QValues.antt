@@ -8,7 +8,7 @@ use lib.ListN.{length, take}
 use lib.Ieee.{Float, binary32, div, le, ofInt, ofBits}
 use Rattle.folds.specs.Columns.{tabulated}
 use Rattle.floats.specs.Least.{lesser}
-use Rattle.counting.specs.Labels.{decoys, targets}
+use Rattle.counting.specs.Labels.{isDecoy, decoys, targets}
 
 -- a over b, as f32: both counts as f32, and their quotient rounded
 abbrev pub ratio : ℕ → ℕ → Float
@@ -40,3 +40,10 @@ qValues labels = lows (ratios labels)
 unfoldable pub atMost : Float → List Float → ℕ
 atMost c [] = 0
 atMost c (q ∷ qs) = cond (le q c) (suc (atMost c qs)) (atMost c qs)
+
+-- how many targets have a number of at most c
+unfoldable pub targetsAtMost : Float → List ℤ → List Float → ℕ
+targetsAtMost c [] qs = 0
+targetsAtMost c (l ∷ ls) [] = 0
+targetsAtMost c (l ∷ ls) (q ∷ qs) =
+    let rest = targetsAtMost c ls qs in cond (isDecoy l) rest (cond (le q c) (suc rest) rest)

@@ -318,7 +318,7 @@ fn upper_bin(bin_lo: usize, last: usize) -> usize
 }
 
 // Estimator::posterior_error on a bin column of 1 to 65,536 places.
-fn posterior_at(estimator: Estimator, bins: &[f64], score: f64) -> f64
+pub fn posterior_at(estimator: Estimator, bins: &[f64], score: f64) -> f64
     requires { ⌜ (1 ≤ length (now bins)) × (length (now bins) ≤ 65536) ⌝ }
     ensures { λ r. ⌜ r ≡ posteriorError estimator (now (bins .entry)) score ⌝ }
 {

@@ -21,7 +21,7 @@ use Rattle.columns.specs.declared.Counted.{Counted}
 use Rattle.columns.specs.declared.Counted.the-variants.{Passing, Refused}
 use Rattle.columns.specs.declared.Refusal.the-variants.{TooLong, WrongLength}
 use Rattle.counting.specs.Labels.{isDecoy}
-use Rattle.counting.specs.QValues.{qValues}
+use Rattle.counting.specs.QValues.{qValues, targetsAtMost}
 use Rattle.counting.proofs.QValues.{same-q, q-length}
 use Rattle.ranking.specs.Ranking.{Row, ranked}
 use Rattle.ranking.specs.Keys.{packed, sorted}
@@ -29,7 +29,7 @@ use Rattle.ranking.proofs.Ranks.{Fitting as Fits, Rising, packedFrom, sorted-ra
 use Rattle.floats.proofs.Narrowed.{converted-fits}
 use Rattle.columns.specs.declared.Outcome.{Outcome}
 use Rattle.columns.specs.declared.Outcome.the-variants as outcome
-use Rattle.precursor.specs.Precursors.{rankedRows, asRanked, rankOf, precursorQ, targetsAtMost, Fitting, asked, accepts, precursorAnswer, precursorColumn, precursorRanks, ranksAnswer, ranksColumn}
+use Rattle.precursor.specs.Precursors.{rankedRows, asRanked, rankOf, precursorQ, Fitting, asked, accepts, precursorAnswer, precursorColumn, precursorRanks, ranksAnswer, ranksColumn}
 use Rattle.precursor.specs.Packed.{along, placeOf, labelOf, labelsOf, rowKey, packedRows, packedScores, scattered}
 use Rattle.precursor.proofs.Places.{Each, none, one, Keyed, no-key, key, in-list, length-ranked, has-row, scattered-is}
 

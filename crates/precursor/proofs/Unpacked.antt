@@ -18,11 +18,10 @@ use mir.Val.{boolByte}
 use Rattle.floats.specs.Least.{lesser}
 use Rattle.floats.specs.Ratio.{oneIn}
 use Rattle.counting.specs.Labels.{isDecoy, decoys, targets}
-use Rattle.counting.specs.QValues.{ratio, ratioAt, ratios, lowest, qValues}
+use Rattle.counting.specs.QValues.{ratio, ratioAt, ratios, lowest, qValues, targetsAtMost}
 use Rattle.counting.proofs.Labels.{decoys-next, targets-next, row-counts}
 use Rattle.counting.proofs.Lowest.{lows-at}
 use Rattle.counting.proofs.QValues.{length-ratios, ratios-at, q-length}
-use Rattle.precursor.specs.Precursors.{targetsAtMost}
 use Rattle.precursor.specs.Packed.{placeOf, labelOf, labelsOf, scattered}
 
 -- ---- what a key says of its row

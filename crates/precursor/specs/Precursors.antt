@@ -7,7 +7,7 @@ use Prim.Native.Nat.{ℕ, suc, _≤_}
 use lib.Dec.{leb, eqb}
 use lib.IntN.{ℤ, pos}
 use lib.ListN.{length, getD}
-use lib.Ieee.{Float, nan, binary32, le}
+use lib.Ieee.{Float, nan, binary32}
 use Rattle.folds.specs.Columns.{filled, tabulated}
 use Rattle.columns.specs.Refusals.{longest}
 use Rattle.columns.specs.declared.Counted.{Counted}
@@ -17,8 +17,7 @@ use Rattle.columns.specs.declared.Outcome.{Outcome}
 use Rattle.columns.specs.declared.Outcome.the-variants as outcome
 use Rattle.floats.specs.Convert.{converted}
 use Rattle.floats.specs.Ratio.{oneIn}
-use Rattle.counting.specs.Labels.{isDecoy}
-use Rattle.counting.specs.QValues.{qValues}
+use Rattle.counting.specs.QValues.{qValues, targetsAtMost}
 use Rattle.ranking.specs.Ranking.{Row, ranked}
 
 -- the rows, ranked by the narrowed score
@@ -38,13 +37,6 @@ rankOf (r ∷ rs) place = cond (eqb (r .place) place) 0 (suc (rankOf rs place))
 unfoldable pub precursorQ : List ℤ → List Float → List Float
 precursorQ labels scores =
     tabulated (λ place. getD (qValues (asRanked labels scores)) (rankOf (rankedRows scores) place) nan) 0 (length labels)
-
--- how many targets have a q-value of at most c
-unfoldable pub targetsAtMost : Float → List ℤ → List Float → ℕ
-targetsAtMost c [] qs = 0
-targetsAtMost c (l ∷ ls) [] = 0
-targetsAtMost c (l ∷ ls) (q ∷ qs) =
-    let rest = targetsAtMost c ls qs in cond (isDecoy l) rest (cond (le q c) (suc rest) rest)
 
 -- "Is every list at most 16,777,215 long?" and "Do all lent columns have the stated length (… one per entry)?", of the two input columns, the
 -- two working columns and the result
