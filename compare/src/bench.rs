@@ -2,6 +2,7 @@
 
 pub mod counting;
 pub mod floats;
+pub mod kde;
 
 use std::hint::black_box;
 use std::time::Instant;

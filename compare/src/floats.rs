@@ -41,7 +41,7 @@ fn f32_order(a: f32, b: f32) -> Ordering {
 }
 
 /// The lesser of two, the first where they are equal; a NaN is ignored.
-fn first_least<F: Float>(a: F, b: F) -> F {
+pub fn first_least<F: Float>(a: F, b: F) -> F {
     if a.partial_cmp(&a).is_none() || b < a {
         b
     } else {
@@ -50,7 +50,7 @@ fn first_least<F: Float>(a: F, b: F) -> F {
 }
 
 /// The greater of two, the first where they are equal; a NaN is ignored.
-fn first_greatest<F: Float>(a: F, b: F) -> F {
+pub fn first_greatest<F: Float>(a: F, b: F) -> F {
     if a.partial_cmp(&a).is_none() || b > a {
         b
     } else {

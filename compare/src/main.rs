@@ -4,6 +4,7 @@ mod bench;
 mod cases;
 mod counting;
 mod floats;
+mod kde;
 mod lists;
 mod report;
 mod sage;
@@ -15,11 +16,16 @@ use std::process::ExitCode;
 const USAGE: &str = "usage: compare smoke
        compare floats [--cases N] [--exhaustive]
        compare counting [--lists N]
+       compare kde [--builds N]
        compare bench floats
-       compare bench counting";
+       compare bench counting
+       compare bench kde";
 
 /// How many random lists `counting` compares where nothing else is said.
 const LISTS: u64 = 200_000;
+
+/// How many random builds and estimators `kde` compares where nothing else is said.
+const BUILDS: u64 = 30_000;
 
 /// Runs the words of the command line; None where they mean nothing.
 fn run(words: &[&str]) -> Option<bool> {
@@ -28,8 +34,11 @@ fn run(words: &[&str]) -> Option<bool> {
         ["floats", options @ ..] => Some(floats::run(&cases::Plan::from_words(options)?)),
         ["counting"] => Some(counting::run(LISTS)),
         ["counting", "--lists", lists] => Some(counting::run(lists.parse().ok()?)),
+        ["kde"] => Some(kde::run(BUILDS)),
+        ["kde", "--builds", builds] => Some(kde::run(builds.parse().ok()?)),
         ["bench", "counting"] => Some(bench::counting::run()),
         ["bench", "floats"] => Some(bench::floats::run()),
+        ["bench", "kde"] => Some(bench::kde::run()),
         _ => None,
     }
 }

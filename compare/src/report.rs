@@ -132,7 +132,7 @@ impl Tally {
 
     /// Prints the line, and says whether nothing differed.
     pub fn print(&self) -> bool {
-        println!("{:16} {:>11} cases, {} mismatches{}", self.name, self.cases, self.mismatches, self.first);
+        println!("{:19} {:>11} cases, {} mismatches{}", self.name, self.cases, self.mismatches, self.first);
         self.mismatches == 0
     }
 }

@@ -1,5 +1,7 @@
 //! The calls of libvayemuku.a, as include/vayemuku.h has them.
 
+pub mod kde;
+
 unsafe extern "C" {
     // module 1, float helpers
     pub safe fn vayemuku_narrow(x: f64) -> f32;

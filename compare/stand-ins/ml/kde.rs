@@ -43,6 +43,11 @@ pub fn recording<R>(work: impl FnOnce() -> R) -> (R, Vec<Build>) {
     (answer, RECORD.replace(None).unwrap_or_default())
 }
 
+/// Runs `work` on rayon's thread. A kernel sum that is called from another thread hands its work over and waits.
+pub fn on_rayons_thread<R: Send>(work: impl FnOnce() -> R + Send) -> R {
+    rayon::scope(|_| work())
+}
+
 /// sage's Builder.
 #[derive(Default)]
 pub struct Builder(unchanged::Builder);
