@@ -413,10 +413,7 @@ pub fn log_error(log10: f64) -> f32
     ensures { λ r. ⌜ r ≡ logError log10 ⌝ }
 {
     let log = floats::narrow(log10);
-    if log == 1.0 / 0.0 {
-        return -324.0;
-    }
-    if log == -1.0 / 0.0 {
+    if (log == 1.0 / 0.0) | (log == -1.0 / 0.0) {
         return -324.0;
     }
     log

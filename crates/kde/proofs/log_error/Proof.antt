@@ -1,7 +1,6 @@
--- `kde::log_error` meets its contract: its two tests are those of the laws of Logs.
+-- `kde::log_error` meets its contract: its test is that of the laws of Logs.
 -- Assumes nothing.
 use mathlib.Core.Path.{_∙_, ap}
-use mathlib.Core.Bool.{true, false}
 use borrow.Author.Needs.{needs}
 use lib.Ieee.{ofBits, neg, div}
 use Rattle.kde.specs.LogErrors.{finiteLog}
@@ -11,15 +10,11 @@ use Rattle.kde.proofs.log_error.Tie as tie
 
 returns : tie.Need-returns
 unfolding ofBits neg div
-returns c = log-infinite _ false (c .if1 .taken) ∙ ap finiteLog (c .before .narrow .ensures)
+returns c = log-infinite _ (c .if1 .taken) ∙ ap finiteLog (c .before .narrow .ensures)
 
 returns-2 : tie.Need-returns-2
 unfolding ofBits neg div
-returns-2 c = log-infinite _ true (c .if2 .taken) ∙ ap finiteLog (c .before .before .narrow .ensures)
-
-returns-3 : tie.Need-returns-3
-unfolding ofBits neg div
-returns-3 c = log-finite _ (c .before .if1 .left) (c .if2 .left) ∙ ap finiteLog (c .before .before .narrow .ensures)
+returns-2 c = log-finite _ (c .if1 .left) ∙ ap finiteLog (c .before .narrow .ensures)
 
 pub log-error-spec : {M : Type 1} → statement M
-log-error-spec = tie.close (tie.spec (λ c κs. search needs) returns returns-2 returns-3)
+log-error-spec = tie.close (tie.spec (λ c κs. search needs) returns returns-2)
