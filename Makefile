@@ -28,9 +28,11 @@ compare: lib prepare ## the port beside sage's unchanged Rust and Rust's own ope
 	$(COMPARE) smoke
 	$(COMPARE) floats
 	$(COMPARE) counting
+	$(COMPARE) fit
 	$(COMPARE) kde
 
 bench: lib prepare ## the port and the Rust timed in one driver, with ratios
 	$(COMPARE) bench floats
 	$(COMPARE) bench counting
+	$(COMPARE) bench fit
 	$(COMPARE) bench kde

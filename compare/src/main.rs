@@ -3,6 +3,7 @@
 mod bench;
 mod cases;
 mod counting;
+mod fit;
 mod floats;
 mod kde;
 mod lists;
@@ -16,9 +17,11 @@ use std::process::ExitCode;
 const USAGE: &str = "usage: compare smoke
        compare floats [--cases N] [--exhaustive]
        compare counting [--lists N]
+       compare fit [--systems N] [--fits N]
        compare kde [--builds N]
        compare bench floats
        compare bench counting
+       compare bench fit
        compare bench kde";
 
 /// How many random lists `counting` compares where nothing else is said.
@@ -34,9 +37,11 @@ fn run(words: &[&str]) -> Option<bool> {
         ["floats", options @ ..] => Some(floats::run(&cases::Plan::from_words(options)?)),
         ["counting"] => Some(counting::run(LISTS)),
         ["counting", "--lists", lists] => Some(counting::run(lists.parse().ok()?)),
+        ["fit", options @ ..] => Some(fit::run(&fit::Plan::from_words(options)?)),
         ["kde"] => Some(kde::run(BUILDS)),
         ["kde", "--builds", builds] => Some(kde::run(builds.parse().ok()?)),
         ["bench", "counting"] => Some(bench::counting::run()),
+        ["bench", "fit"] => Some(bench::fit::run()),
         ["bench", "floats"] => Some(bench::floats::run()),
         ["bench", "kde"] => Some(bench::kde::run()),
         _ => None,
