@@ -115,6 +115,34 @@ uint32_t vayemuku_bin_count(uint32_t unit, float lo, float hi, size_t *bins);
 float vayemuku_log_error(double log10);
 uint32_t vayemuku_log_errors(const double *log10s, size_t log10s_len, float *errors, size_t errors_len);
 
+/* Module 5: competitions. A table is four columns with one entry per slot: the best forward and reverse score, and a mark for each side, 0 while it is unseen.
+ * A slot of 4294967295 marks a row that takes no part. After a refusal tables are unchanged. */
+#define VAYEMUKU_NO_PART 4294967295u
+
+/* The table in which no side is seen. Refusals: 1, 2 the columns not equally long. */
+uint32_t vayemuku_fresh_table(float *forward, size_t forward_len, float *reverse, size_t reverse_len, uint32_t *forward_seen, size_t forward_seen_len,
+                              uint32_t *reverse_seen, size_t reverse_seen_len);
+
+/* Adds a batch of rows: each raises its slot's side (a label of -1 the reverse one) by max and marks it seen. Refusals: 1, 2, 5 a slot past the table. */
+uint32_t vayemuku_add_rows(const uint32_t *slots, size_t slots_len, const int32_t *labels, size_t labels_len, const float *scores, size_t scores_len,
+                           float *forward, size_t forward_len, float *reverse, size_t reverse_len, uint32_t *forward_seen, size_t forward_seen_len,
+                           uint32_t *reverse_seen, size_t reverse_seen_len);
+
+/* Every seen slot's score and whether its decoy wins (1 or 0), at which the host takes its densities; NaN and 4294967295 for an unseen slot.
+ * Refusals: 1, 2. */
+uint32_t vayemuku_winners(const float *forward, size_t forward_len, const float *reverse, size_t reverse_len, const uint32_t *forward_seen,
+                          size_t forward_seen_len, const uint32_t *reverse_seen, size_t reverse_seen_len, float *scores, size_t scores_len,
+                          uint32_t *is_decoy, size_t is_decoy_len);
+
+/* Q-values of feature rows by their slots' names; *count gets how many targets among the ranked sides have one of at most 0.01. two_names of 0: both
+ * sides of a slot carry one name (picked_protein_group); any other: each its own (picked_protein with generated decoys). keys and spare are working
+ * columns, two entries per slot. Refusals: 1, 2, 3 not 1 to 65,536 bins, 5. */
+uint32_t vayemuku_assign_q_value(uint32_t two_names, double min_score, double score_step, const double *bins, size_t bins_len, const float *forward,
+                                 size_t forward_len, const float *reverse, size_t reverse_len, const uint32_t *forward_seen, size_t forward_seen_len,
+                                 const uint32_t *reverse_seen, size_t reverse_seen_len, const uint32_t *slots, size_t slots_len, const int32_t *labels,
+                                 size_t labels_len, uint64_t *keys, size_t keys_len, uint64_t *spare, size_t spare_len, float *q, size_t q_len,
+                                 size_t *count);
+
 /* Module 7: whether a line of a ranked list is right, at one in 100 and at one in 20. *right gets 1 or 0; *row, *decoys (plus one) and *targets
  * the numbers of the line if it is right, else of the last later row that qualifies or, if none does, of the line. Refusals: 1, 9 a line past the list. */
 uint32_t vayemuku_check_line_100(const int32_t *labels, size_t labels_len, size_t line, uint32_t *right, size_t *row, size_t *decoys, size_t *targets);

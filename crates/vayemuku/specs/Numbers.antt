@@ -10,6 +10,8 @@ use Rattle.columns.specs.Refusals.{longest, numberOf}
 use Rattle.line_check.specs.declared.Line.{Line}
 use Rattle.line_check.specs.declared.Line.the-variants.{Right, Wrong, Refused}
 use Rattle.ranking.specs.Keys.{sorted}
+use Rattle.fdr.specs.declared.Names.{Names}
+use Rattle.fdr.specs.declared.Names.the-variants.{Two, One}
 use Rattle.kde.specs.declared.Builder.{Builder}
 use Rattle.kde.specs.declared.Estimator.{Estimator}
 use Rattle.kde.specs.declared.Tolerance.{Tolerance}
@@ -48,3 +50,7 @@ estimatorOf least step = record { «min_score» = least; «score_step» = step }
 -- A tolerance's unit as a number: 0 is ppm, 1 is Da; any other is none that question 4 lets pass.
 abbrev pub toleranceOf : ℕ → Float → Float → Tolerance
 toleranceOf unit lo hi = cond (eqb unit 0) (Ppm lo hi) (cond (eqb unit 1) (Da lo hi) (Pct lo hi))
+
+-- How many names a slot has, as a number: 0 is one name for both sides, any other two.
+abbrev pub namesOf : ℕ → Names
+namesOf n = cond (eqb n 0) One Two

@@ -19,9 +19,13 @@ ghost use Rattle.kde.specs.Bins.{binScoresAnswer, binScoresColumn, binsAsked, l
 ghost use Rattle.kde.specs.Estimate.{posteriorAnswer, errorsAnswer, errorsColumn};
 ghost use Rattle.kde.specs.Tolerances.{binCountAnswer};
 ghost use Rattle.kde.specs.LogErrors.{logError, logErrorsAnswer, logErrorsColumn};
+ghost use Rattle.competition.specs.Tables.{tableOf, freshAnswer, freshTable, addAnswer, addedTable};
+ghost use Rattle.competition.specs.Winners.{winnersAnswer, winnerScores, winnerDecoys};
+ghost use Rattle.fdr.specs.QValues.{assignAnswer, assignColumn};
 ghost use Rattle.line_check.specs.Check.{lineAnswer};
 ghost use Rattle.precursor.specs.Precursors.{precursorAnswer, precursorColumn, ranksAnswer, ranksColumn};
-ghost use Rattle.vayemuku.specs.Numbers.{signOf, numbersOf, keysNumber, keysColumn, toleranceOf, builderOf, estimatorOf};
+ghost use Rattle.vayemuku.specs.Numbers.{signOf, numbersOf, keysNumber, keysColumn, toleranceOf, builderOf, estimatorOf, namesOf};
+use fdr::Names;
 use floats::Ordering;
 use gauss::Solved;
 use kde::BinCount;
@@ -630,4 +634,125 @@ pub extern "C" fn vayemuku_log_errors(log10s: &[f64], errors: &mut [f32]) -> u32
     ensures column { λ _. ⌜ now (errors .exit) ≡ logErrorsColumn (now (log10s .entry)) (now (errors .entry)) ⌝ }
 {
     columns::outcome_number(kde::log_errors(log10s, errors))
+}
+
+// Module 5, competitions.
+
+// The table in which no side is seen.
+#[no_mangle]
+pub extern "C" fn vayemuku_fresh_table(
+    forward: &mut [f32],
+    reverse: &mut [f32],
+    forward_seen: &mut [u32],
+    reverse_seen: &mut [u32],
+) -> u32
+    ensures number { λ r. ⌜ r ≡ outcomeNumber (freshAnswer (tableOf (now (forward .entry)) (now (reverse .entry)) (now («forward_seen» .entry)) (now («reverse_seen» .entry)))) ⌝ }
+    ensures table { λ _. ⌜ tableOf (now (forward .exit)) (now (reverse .exit)) (now («forward_seen» .exit)) (now («reverse_seen» .exit)) ≡ freshTable (tableOf (now (forward .entry)) (now (reverse .entry)) (now («forward_seen» .entry)) (now («reverse_seen» .entry))) ⌝ }
+{
+    columns::outcome_number(competition::fresh_table(forward, reverse, forward_seen, reverse_seen))
+}
+
+// Adds a batch of rows to a table.
+#[no_mangle]
+pub extern "C" fn vayemuku_add_rows(
+    slots: &[u32],
+    labels: &[i32],
+    scores: &[f32],
+    forward: &mut [f32],
+    reverse: &mut [f32],
+    forward_seen: &mut [u32],
+    reverse_seen: &mut [u32],
+) -> u32
+    ensures number { λ r. ⌜ r ≡ outcomeNumber (addAnswer (now (slots .entry)) (now (labels .entry)) (now (scores .entry)) (tableOf (now (forward .entry)) (now (reverse .entry)) (now («forward_seen» .entry)) (now («reverse_seen» .entry)))) ⌝ }
+    ensures table { λ _. ⌜ tableOf (now (forward .exit)) (now (reverse .exit)) (now («forward_seen» .exit)) (now («reverse_seen» .exit)) ≡ addedTable (now (slots .entry)) (now (labels .entry)) (now (scores .entry)) (tableOf (now (forward .entry)) (now (reverse .entry)) (now («forward_seen» .entry)) (now («reverse_seen» .entry))) ⌝ }
+{
+    columns::outcome_number(competition::add_rows(
+        slots,
+        labels,
+        scores,
+        forward,
+        reverse,
+        forward_seen,
+        reverse_seen,
+    ))
+}
+
+// score() and is_decoy() of every seen slot.
+#[no_mangle]
+pub extern "C" fn vayemuku_winners(
+    forward: &[f32],
+    reverse: &[f32],
+    forward_seen: &[u32],
+    reverse_seen: &[u32],
+    scores: &mut [f32],
+    is_decoy: &mut [u32],
+) -> u32
+    ensures number { λ r. ⌜ r ≡ outcomeNumber (winnersAnswer (tableOf (now (forward .entry)) (now (reverse .entry)) (now («forward_seen» .entry)) (now («reverse_seen» .entry))) (length (now (scores .entry))) (length (now («is_decoy» .entry)))) ⌝ }
+    ensures scores { λ _. ⌜ now (scores .exit) ≡ winnerScores (tableOf (now (forward .entry)) (now (reverse .entry)) (now («forward_seen» .entry)) (now («reverse_seen» .entry))) (now (scores .entry)) (now («is_decoy» .entry)) ⌝ }
+    ensures decoys { λ _. ⌜ now («is_decoy» .exit) ≡ winnerDecoys (tableOf (now (forward .entry)) (now (reverse .entry)) (now («forward_seen» .entry)) (now («reverse_seen» .entry))) (now (scores .entry)) (now («is_decoy» .entry)) ⌝ }
+{
+    columns::outcome_number(competition::winners(
+        forward,
+        reverse,
+        forward_seen,
+        reverse_seen,
+        scores,
+        is_decoy,
+    ))
+}
+
+// 0 is one name for both sides of a slot, any other number two.
+fn names(two_names: u32) -> Names
+    ensures { λ r. ⌜ r ≡ namesOf «two_names» ⌝ }
+{
+    if two_names == 0 {
+        return Names::One;
+    }
+    Names::Two
+}
+
+// Q-values of feature rows by their slots' names, and the count.
+#[no_mangle]
+pub extern "C" fn vayemuku_assign_q_value(
+    two_names: u32,
+    min_score: f64,
+    score_step: f64,
+    bins: &[f64],
+    forward: &[f32],
+    reverse: &[f32],
+    forward_seen: &[u32],
+    reverse_seen: &[u32],
+    slots: &[u32],
+    labels: &[i32],
+    keys: &mut [u64],
+    spare: &mut [u64],
+    q: &mut [f32],
+    count: &mut usize,
+) -> u32
+    ensures number { λ r. ⌜ r ≡ countedNumber (assignAnswer (estimatorOf «min_score» «score_step») (now (bins .entry)) (tableOf (now (forward .entry)) (now (reverse .entry)) (now («forward_seen» .entry)) (now («reverse_seen» .entry))) (now (slots .entry)) (length (now (labels .entry))) (length (now (keys .entry))) (length (now (spare .entry))) (length (now (q .entry)))) ⌝ }
+    ensures keys { λ _. ⌜ now (keys .exit) ≡ filled 0 (now (keys .entry)) ⌝ }
+    ensures spare { λ _. ⌜ now (spare .exit) ≡ filled 0 (now (spare .entry)) ⌝ }
+    ensures column { λ _. ⌜ now (q .exit) ≡ assignColumn (namesOf «two_names») (estimatorOf «min_score» «score_step») (now (bins .entry)) (tableOf (now (forward .entry)) (now (reverse .entry)) (now («forward_seen» .entry)) (now («reverse_seen» .entry))) (now (slots .entry)) (now (labels .entry)) (length (now (keys .entry))) (length (now (spare .entry))) (now (q .entry)) ⌝ }
+    ensures count { λ _. ⌜ now (count .exit) ≡ countedCount (assignAnswer (estimatorOf «min_score» «score_step») (now (bins .entry)) (tableOf (now (forward .entry)) (now (reverse .entry)) (now («forward_seen» .entry)) (now («reverse_seen» .entry))) (now (slots .entry)) (length (now (labels .entry))) (length (now (keys .entry))) (length (now (spare .entry))) (length (now (q .entry)))) ⌝ }
+{
+    let estimator = Estimator {
+        min_score,
+        score_step,
+    };
+    let answer = fdr::assign_q_value(
+        names(two_names),
+        estimator,
+        bins,
+        forward,
+        reverse,
+        forward_seen,
+        reverse_seen,
+        slots,
+        labels,
+        keys,
+        spare,
+        q,
+    );
+    *count = columns::counted_count(answer);
+    columns::counted_number(answer)
 }

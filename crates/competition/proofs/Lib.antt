@@ -1,0 +1,6 @@
+pub mod Slots
+pub mod Rows
+pub mod Answers
+pub mod Slotwise
+pub mod Accepting
+pub mod Batches

@@ -1,0 +1,139 @@
+-- One row's step on a table, and the rows of a batch one after the other. Assumes nothing.
+use mathlib.Core.Path.{_≡_, refl, sym, ap, _∙_}
+use mathlib.Core.List.{List}
+use mathlib.Core.Bool.{Bool, true, false, cond, _||_}
+use Prim.Native.Nat.{ℕ, suc, _+_, _≤_, _<_, _^_, zero-le}
+use native.Mathlib.Numerals.{add-one}
+use native.Mathlib.Omega.{arith}
+use borrow.Author.Tests.{ltb-true, eqb-true, eq-eqb, ne-eqb}
+use lib.Dec.{ltb, eqb}
+use lib.IntN.{ℤ, pos}
+use lib.Signed.{mag}
+use lib.ListN.{length, drop, getD, set, length-set, drop-of-length-le}
+use lib.Seq.{drop-cons}
+use lib.Ieee.{Float, nan}
+use mir.Syntax.{w32}
+use mir.Val.{SFits, ofZ, toZ}
+use mir.ValLaws.{toZ-ofZ}
+use Rattle.floats.specs.Least.{greater}
+use Rattle.counting.specs.Labels.{isDecoy}
+use Rattle.counting.proofs.Tally.{label-test}
+use Rattle.competition.specs.declared.Competition.{Competition}
+use Rattle.competition.specs.Tables.{Table, tableOf, noPart, raiseForward, raiseReverse, withRow, added, allowed, allAllowed, RowReady, AddReady}
+use Rattle.competition.proofs.Slots.{both}
+
+-- ---- the three ways through `add_row`
+
+module _ (slot : ℕ) (label : ℤ) (score : Float) (t : Table) where
+  pub no-part-row : slot ≡ noPart → t ≡ withRow slot label score t
+  no-part-row e = rw (eq-eqb slot noPart e)
+
+  module _ (e : slot ≡ noPart → ⊥) (fits : SFits w32 label) where
+    pub decoy-row : ofZ w32 label ≡ 4294967295 → {entry : Competition}
+        → entry ≡ record { forward = getD (t .forward) slot nan; reverse = greater (getD (t .reverse) slot nan) score }
+        → tableOf (t .forward) (set (t .reverse) slot (entry .reverse)) (t .forwardSeen) (set (t .reverseSeen) slot 1) ≡ withRow slot label score t
+    decoy-row d r = rw (ne-eqb slot noPart e, sym (label-test label (fits .sfits)) ∙ eq-eqb (ofZ w32 label) 4294967295 d, r)
+
+    pub target-row : (ofZ w32 label ≡ 4294967295 → ⊥) → {entry : Competition}
+        → entry ≡ record { forward = greater (getD (t .forward) slot nan) score; reverse = getD (t .reverse) slot nan }
+        → tableOf (set (t .forward) slot (entry .forward)) (t .reverse) (set (t .forwardSeen) slot 1) (t .reverseSeen) ≡ withRow slot label score t
+    target-row d r = rw (ne-eqb slot noPart e, sym (label-test label (fits .sfits)) ∙ ne-eqb (ofZ w32 label) 4294967295 d, r)
+
+-- ---- no column gets longer or shorter
+
+pub record SameLengths (t u : Table) : Type 0 where
+  pub forward : length (t .forward) ≡ length (u .forward)
+  pub reverse : length (t .reverse) ≡ length (u .reverse)
+  pub forwardSeen : length (t .forwardSeen) ≡ length (u .forwardSeen)
+  pub reverseSeen : length (t .reverseSeen) ≡ length (u .reverseSeen)
+
+pub same-lengths-trans : {t u v : Table} → SameLengths t u → SameLengths u v → SameLengths t v
+same-lengths-trans p q = record {
+  forward = p .forward ∙ q .forward;
+  reverse = p .reverse ∙ q .reverse;
+  forwardSeen = p .forwardSeen ∙ q .forwardSeen;
+  reverseSeen = p .reverseSeen ∙ q .reverseSeen;
+}
+
+pub row-lengths : (slot : ℕ) (label : ℤ) (score : Float) (t : Table) → SameLengths (withRow slot label score t) t
+row-lengths slot label score t = go (eqb slot noPart) (isDecoy label)
+  where
+    go : (n d : Bool) → SameLengths (cond n t (cond d (raiseReverse slot score t) (raiseForward slot score t))) t
+    go true d = record { forward = refl; reverse = refl; forwardSeen = refl; reverseSeen = refl }
+    go false true = record {
+      forward = refl;
+      reverse = length-set (t .reverse) slot _;
+      forwardSeen = refl;
+      reverseSeen = length-set (t .reverseSeen) slot 1;
+    }
+    go false false = record {
+      forward = length-set (t .forward) slot _;
+      reverse = refl;
+      forwardSeen = length-set (t .forwardSeen) slot 1;
+      reverseSeen = refl;
+    }
+
+-- ---- the loop over a batch: the rows to come make of the table at hand what all rows make of the table that came in
+
+pub record Adding (slots : List ℕ) (labels : List ℤ) (scores : List Float) (t₀ t : Table) (i : ℕ) : Type 0 where
+  pub high : i ≤ length slots
+  pub same : SameLengths t t₀
+  pub left : allAllowed (length (t₀ .forward)) (drop i slots) ≡ true
+  pub is : added (drop i slots) (drop i labels) (drop i scores) t ≡ added slots labels scores t₀
+
+allowed-within : (count slot : ℕ) → allowed count slot ≡ true → (slot ≡ noPart → ⊥) → slot < count
+allowed-within count slot e n = go (ltb slot count) refl
+  where
+    go : (b : Bool) → ltb slot count ≡ b → slot < count
+    go true l = ltb-true slot count l
+    go false l = absurd (n (eqb-true slot noPart (ap (λ (b : Bool). b || eqb slot noPart) (sym l) ∙ e)))
+
+module _ {slots : List ℕ} {labels : List ℤ} {scores : List Float} {t₀ : Table} (ready : AddReady slots labels scores t₀) where
+  pub adding-start : Adding slots labels scores t₀ t₀ 0
+  adding-start = record {
+    high = zero-le;
+    same = record { forward = refl; reverse = refl; forwardSeen = refl; reverseSeen = refl };
+    left = ready .slots-allowed;
+    is = refl;
+  }
+
+  module _ {t : Table} {i : ℕ} (w : Adding slots labels scores t₀ t i) where
+    pub adding-done : length slots ≤ i → t ≡ added slots labels scores t₀
+    unfolding added
+    adding-done h = ap (λ (l : List ℕ). added l (drop i labels) (drop i scores) t) (sym (drop-of-length-le slots h)) ∙ w .is
+
+    module _ (h : i < length slots) where
+      next : (allowed (length (t₀ .forward)) (getD slots i 0) ≡ true) × (allAllowed (length (t₀ .forward)) (drop (suc i) slots) ≡ true)
+      unfolding allAllowed
+      next =
+          both (allowed (length (t₀ .forward)) (getD slots i 0)) (allAllowed (length (t₀ .forward)) (drop (suc i) slots))
+          (ap (allAllowed (length (t₀ .forward))) (sym (drop-cons slots i 0 h)) ∙ w .left)
+
+      -- what `add_row` asks
+      pub adding-row : RowReady (getD slots i 0) t
+      adding-row =
+          let s = w .same in
+          record {
+            within = λ n. omega (arith, allowed-within (length (t₀ .forward)) (getD slots i 0) (next .0) n, s .forward);
+            reverse-fit = s .reverse ∙ ready .reverse-fit ∙ sym (s .forward);
+            forward-marks = s .forwardSeen ∙ ready .forward-marks ∙ sym (s .forward);
+            reverse-marks = s .reverseSeen ∙ ready .reverse-marks ∙ sym (s .forward);
+          }
+
+      -- a label comes from its 32 bits
+      pub adding-step : mag (getD labels i (pos 0)) < 2 ^ 31 → {forward reverse : List Float} {forwardSeen reverseSeen : List ℕ}
+          → tableOf forward reverse forwardSeen reverseSeen ≡ withRow (getD slots i 0) (toZ w32 (ofZ w32 (getD labels i (pos 0)))) (getD scores i nan) t
+          → Adding slots labels scores t₀ (tableOf forward reverse forwardSeen reverseSeen) (i + 1)
+      unfolding added
+      adding-step fits e =
+          let s = getD slots i 0 in
+          let l = getD labels i (pos 0) in
+          let x = getD scores i nan in
+          rw (e, toZ-ofZ w32 l (record { sfits = fits }), add-one i)
+          (record {
+            high = h;
+            same = same-lengths-trans (row-lengths s l x t) (w .same);
+            left = next .1;
+            is = rw (drop-cons slots i 0 h, drop-cons labels i (pos 0) (omega (arith, ready .labels-fit)), drop-cons scores i nan (omega (arith, ready .scores-fit)))
+                at (w .is);
+          })

@@ -1,0 +1,181 @@
+-- Keys and what goes along with them: a number written over the score leaves what goes along, and can be read back. Assumes nothing.
+use mathlib.Core.Path.{_≡_, refl, sym, ap, ap₂, _∙_, subst}
+use mathlib.Core.Logic.{inl, inr}
+use mathlib.Core.List.{List, [], _∷_, map}
+use mathlib.Core.Bool.{Bool, true, false, not, cond}
+use Prim.Native.Nat.{ℕ, zero, suc, _+_, _*_, _/_, _%_, _≤_, _<_}
+use native.Mathlib.Nat.{not-suc-le-zero, le-of-suc-le-suc}
+use native.Mathlib.Omega.{arith}
+use lib.Dec.{T, not-T, lit≤}
+use mir.Val.{boolByte}
+use lib.ListN.{length, getD}
+use lib.Ieee.{Float, nan, binary32, fits, isNan, lt, le, add, div, ofInt, ofBits, toBits}
+use lib.Ieee.Fits.{div-fits}
+use lib.Ieee.Bits.{cond-no, ofBits-toBits, toBits-lt, ofBits-fits}
+use Rattle.floats.specs.Least.{lesser}
+use Rattle.floats.proofs.Order.{le-left, lt→not-le, lt-of-lt-of-le, lesser-either, lesser-le-left}
+use Rattle.counting.specs.QValues.{lowest, lows}
+use Rattle.counting.proofs.Lowest.{lesser-number, lowest-number, lowest-most, length-lows}
+use Rattle.kde.specs.declared.Estimator.{Estimator}
+use Rattle.fdr.specs.Rows.{Side}
+use Rattle.fdr.specs.QValues.{one, ratiosFrom}
+use Rattle.fdr.specs.Passes.{tagged, numberOf, All, Bits, Tagged}
+
+-- ---- one key
+
+pub above : (b a : ℕ) → a < 4294967296 → (b * 4294967296 + a) / 4294967296 ≡ b
+above b a h = omega arith
+
+pub below : (b a : ℕ) → a < 4294967296 → (b * 4294967296 + a) % 4294967296 ≡ a
+below b a h = omega arith
+
+pub along-lt : (k : ℕ) → k % 4294967296 < 4294967296
+along-lt k = omega arith
+
+pub byte-most : (b : Bool) → boolByte b ≤ 1
+byte-most true = lit≤ tt
+byte-most false = lit≤ tt
+
+pub byte-is : (b : Bool) → boolByte b ≡ cond b 1 0
+byte-is true = refl
+byte-is false = refl
+
+-- ---- what all keys have, one of them has
+
+pub all-at : (P : ℕ → Type 0) (l : List ℕ) → All P l → (i : ℕ) → i < length l → P (getD l i 0)
+all-at P [] w i h = absurd (not-suc-le-zero h)
+all-at P (x ∷ xs) w zero h = w .0
+all-at P (x ∷ xs) w (suc i) h = all-at P xs (w .1) i (le-of-suc-le-suc h)
+
+-- ---- numbers that can be written as bits: no NaN, and of the format
+
+abbrev pub Held : Float → Type 0
+Held q = T (not (isNan q)) × T (fits binary32 q)
+
+abbrev pub AllHeld : List Float → Type 0
+AllHeld [] = Unit {0}
+AllHeld (q ∷ qs) = Held q × AllHeld qs
+
+pub bits-small : (q : Float) → T (fits binary32 q) → toBits binary32 q < 4294967296
+bits-small q h = toBits-lt binary32 q h
+
+pub held-bits : (q : Float) → Held q → Bits (toBits binary32 q)
+held-bits q h = record {
+  small = bits-small q (h .1);
+  number = subst (λ (x : Float). T (not (isNan x))) (sym (ofBits-toBits binary32 q (h .1))) (h .0);
+}
+
+pub one-number : T (not (isNan one))
+unfolding isNan ofBits
+one-number = tt
+
+one-fits : T (fits binary32 one)
+one-fits = ofBits-fits binary32 0x3F800000
+
+pub least-number : (a b : Float) → T (not (isNan a)) → T (not (isNan (lesser a b)))
+least-number a b h = le-left (lesser a b) a (lesser-le-left a b h)
+
+lesser-fits : (a b : Float) → T (fits binary32 a) → T (fits binary32 b) → T (fits binary32 (lesser a b))
+lesser-fits a b p q = elim (lesser-either a b) [ inl e ↦ rw e p | inr e ↦ rw e q ]
+
+-- ratios are of the format, so that their minima, and ratios held to 1.0, can be written
+abbrev pub AllFit : List Float → Type 0
+AllFit [] = Unit {0}
+AllFit (q ∷ qs) = T (fits binary32 q) × AllFit qs
+
+pub ratios-fit : (e : Estimator) (bins : List Float) (sum : Float) (targets : ℕ) (sides : List Side) → AllFit (ratiosFrom e bins sum targets sides)
+unfolding ratiosFrom
+ratios-fit e bins sum targets [] = tt
+ratios-fit e bins sum targets (s ∷ ss) = (div-fits binary32 _ _, ratios-fit e bins _ _ ss)
+
+pub capped-held : (rs : List Float) → AllFit rs → AllHeld (map (lesser one) rs)
+capped-held [] w = tt
+capped-held (r ∷ rs) w = ((least-number one r one-number, lesser-fits one r one-fits (w .0)), capped-held rs (w .1))
+
+lowest-fits : (rs : List Float) → AllFit rs → T (fits binary32 (lowest rs))
+unfolding lowest
+lowest-fits [] w = one-fits
+lowest-fits (r ∷ rs) w = lesser-fits (lowest rs) r (lowest-fits rs (w .1)) (w .0)
+
+pub lows-held : (rs : List Float) → AllFit rs → AllHeld (lows rs)
+unfolding lows
+lows-held [] w = tt
+lows-held (r ∷ rs) w = ((lowest-number (r ∷ rs), lowest-fits (r ∷ rs) w), lows-held rs (w .1))
+
+-- ---- numbers in the scores' places
+
+pub length-ratios : (e : Estimator) (bins : List Float) (sum : Float) (targets : ℕ) (sides : List Side) → length (ratiosFrom e bins sum targets sides) ≡ length sides
+unfolding ratiosFrom
+length-ratios e bins sum targets [] = refl
+length-ratios e bins sum targets (s ∷ ss) = ap suc (length-ratios e bins _ _ ss)
+
+pub length-tagged : (qs : List Float) (keys : List ℕ) → length qs ≡ length keys → length (tagged qs keys) ≡ length keys
+unfolding tagged
+length-tagged [] [] h = refl
+length-tagged [] (k ∷ ks) h = h
+length-tagged (q ∷ qs) [] h = refl
+length-tagged (q ∷ qs) (k ∷ ks) h = ap suc (length-tagged qs ks (omega arith))
+
+pub tags-bits : (qs : List Float) (keys : List ℕ) → AllHeld qs → All Tagged (tagged qs keys)
+unfolding tagged
+tags-bits [] keys h = tt
+tags-bits (q ∷ qs) [] h = tt
+tags-bits (q ∷ qs) (k ∷ ks) h = (subst Bits (sym (above (toBits binary32 q) (k % 4294967296) (along-lt k))) (held-bits q (h .0)), tags-bits qs ks (h .1))
+
+-- they can be read back
+pub numbers-tagged : (qs : List Float) (keys : List ℕ) → AllHeld qs → length qs ≡ length keys → map numberOf (tagged qs keys) ≡ qs
+unfolding tagged
+numbers-tagged [] keys h e = refl
+numbers-tagged (q ∷ qs) [] h e = absurd (omega arith)
+numbers-tagged (q ∷ qs) (k ∷ ks) h e =
+    ap₂ _∷_ (ap (ofBits binary32) (above (toBits binary32 q) (k % 4294967296) (along-lt k)) ∙ ofBits-toBits binary32 q (h .0 .1)) (numbers-tagged qs ks (h .1) (omega arith))
+
+-- and what goes along stays
+pub along-tagged : {A : Type 0} (f : ℕ → A) (qs : List Float) (keys : List ℕ) → length qs ≡ length keys
+    → map (λ k. f (k % 4294967296)) (tagged qs keys) ≡ map (λ k. f (k % 4294967296)) keys
+unfolding tagged
+along-tagged f [] [] e = refl
+along-tagged f [] (k ∷ ks) e = absurd (omega arith)
+along-tagged f (q ∷ qs) [] e = absurd (omega arith)
+along-tagged f (q ∷ qs) (k ∷ ks) e =
+    ap₂ _∷_ (ap f (below (toBits binary32 q) (k % 4294967296) (along-lt k))) (along-tagged f qs ks (omega arith))
+
+pub all-tagged : (P : ℕ → Type 0) (qs : List Float) (keys : List ℕ) → All (λ k. P (k % 4294967296)) keys → All (λ k. P (k % 4294967296)) (tagged qs keys)
+unfolding tagged
+all-tagged P [] keys w = tt
+all-tagged P (q ∷ qs) [] w = tt
+all-tagged P (q ∷ qs) (k ∷ ks) w = (subst P (sym (below (toBits binary32 q) (k % 4294967296) (along-lt k))) (w .0), all-tagged P qs ks (w .1))
+
+-- nor does it matter what was written before
+pub tagged-again : (qs rs : List Float) (keys : List ℕ) → length rs ≡ length keys → tagged qs (tagged rs keys) ≡ tagged qs keys
+unfolding tagged
+tagged-again [] rs keys e = refl
+tagged-again (q ∷ qs) [] [] e = refl
+tagged-again (q ∷ qs) [] (k ∷ ks) e = absurd (omega arith)
+tagged-again (q ∷ qs) (r ∷ rs) [] e = absurd (omega arith)
+tagged-again (q ∷ qs) (r ∷ rs) (k ∷ ks) e =
+    ap₂ (λ (a : ℕ) (l : List ℕ). (toBits binary32 q * 4294967296 + a) ∷ l) (below (toBits binary32 r) (k % 4294967296) (along-lt k)) (tagged-again qs rs ks (omega arith))
+
+-- ---- a ratio above 1.0 and a NaN may stand as 1.0: the minimum starts there
+
+capped : (a r : Float) → T (not (isNan a)) → T (le a one) → lesser a (lesser one r) ≡ lesser a r
+capped a r n h =
+    ap (lesser a) (lesser-number one r one-number)
+    ∙ go (lt r one) (λ t. lt-of-lt-of-le r a one t h)
+  where
+    least : lesser a one ≡ a
+    least = lesser-number a one n ∙ cond-no (lt one a) one a (not-T (lt one a) (λ t. lt→not-le one a t h))
+
+    go : (x : Bool) → (T (lt r a) → T x) → lesser a (cond x r one) ≡ lesser a r
+    go true f = refl
+    go false f = least ∙ sym (lesser-number a r n ∙ cond-no (lt r a) r a (not-T (lt r a) f))
+
+lowest-capped : (rs : List Float) → lowest (map (lesser one) rs) ≡ lowest rs
+unfolding lowest
+lowest-capped [] = refl
+lowest-capped (r ∷ rs) = ap (λ (x : Float). lesser x (lesser one r)) (lowest-capped rs) ∙ capped (lowest rs) r (lowest-number rs) (lowest-most rs)
+
+pub lows-capped : (rs : List Float) → lows (map (lesser one) rs) ≡ lows rs
+unfolding lows
+lows-capped [] = refl
+lows-capped (r ∷ rs) = ap₂ _∷_ (lowest-capped (r ∷ rs)) (lows-capped rs)

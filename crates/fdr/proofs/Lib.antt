@@ -1,0 +1,9 @@
+pub mod Keys
+pub mod Minima
+pub mod Ratios
+pub mod Packing
+pub mod Naming
+pub mod Sides
+pub mod Joined
+pub mod Answers
+pub mod Points

@@ -1,0 +1,116 @@
+-- `fdr::write_ratios` meets its contract: the rows up to i have their ratios (`Summing`). Assumes nothing.
+use mathlib.Core.Path.{sym, subst}
+use mathlib.Core.Bool.{not}
+use mathlib.Core.List.{[]}
+use Prim.Native.Nat.{_+_, _-_, _%_, _^_, _≤_}
+use native.Mathlib.Omega.{arith}
+use lib.Dec.{T, le→leb}
+use lib.ListN.{length, getD}
+use lib.Ieee.{Float, inFloat, isNan}
+use Rattle.fdr.specs.QValues.{one}
+use Rattle.fdr.proofs.Keys.{one-number, least-number}
+use Rattle.competition.specs.Tables.{tableOf}
+use Rattle.fdr.proofs.Ratios.{Summing, summing-start, summing-within, summing-few, summing-step, summing-done}
+use borrow.Author.Needs.{needs}
+use Rattle.fdr.proofs.write_ratios.Statement.{statement}
+use Rattle.fdr.proofs.write_ratios.Tie as tie
+
+abbrev Inv-loop : tie.InvT-loop
+Inv-loop estimator bins forward reverse keys₀ decoy₀ target₀ i₀ i-end keys decoy target i = Summing estimator bins (tableOf forward reverse [] []) keys₀ i decoy target keys
+
+abbrev μ-loop : tie.MeasureT-loop
+μ-loop estimator bins forward reverse keys₀ decoy₀ target₀ i₀ i-end keys decoy target i = length keys₀ - i
+
+loop-holds : tie.Need-loop-holds Inv-loop μ-loop
+loop-holds c = summing-start _ _ _ _
+
+mul-along : tie.Need-mul-along Inv-loop μ-loop
+mul-along c = search needs
+
+slice-read-along : tie.Need-slice-read-along Inv-loop μ-loop
+slice-read-along c = search needs
+
+score-of-requires : tie.Need-score-of-requires Inv-loop μ-loop
+score-of-requires c κs = (summing-within _ _ _ _ _ (c .before .before .loop .inv) (search needs) (c .before .before .before .before .before .before .before .pre .within), c .before .before .before .before .before .before .before .pre .reverse-fit)
+
+widen-requires : tie.Need-widen-requires Inv-loop μ-loop
+widen-requires c κs = search needs
+
+posterior-at-requires : tie.Need-posterior-at-requires Inv-loop μ-loop
+posterior-at-requires c κs = (c .before .before .before .before .before .before .before .before .before .pre .some, c .before .before .before .before .before .before .before .before .before .pre .few)
+
+narrow-requires : tie.Need-narrow-requires Inv-loop μ-loop
+narrow-requires c κs = search needs
+
+cast-target : tie.Need-cast-target Inv-loop μ-loop
+cast-target c = search needs
+
+sub-target : tie.Need-sub-target Inv-loop μ-loop
+sub-target c = search needs
+
+add-target : tie.Need-add-target Inv-loop μ-loop
+add-target c =
+    omega (arith, summing-few _ _ _ _ (c .before .before .before .before .before .before .loop .inv) (search needs), c .before .before .before .before .before .before .before .before .before .before .before .pre .countable)
+
+int-to-float-min-f32 : tie.Need-int-to-float-min-f32 Inv-loop μ-loop
+unfolding inFloat
+int-to-float-min-f32 c =
+    let n = c .before .before .before .before .before .before .before .loop .target + (1 - getD (c .before .before .before .before .before .before .before .loop .keys) (c .before .before .before .before .before .before .before .loop .i) 0 % 4294967296 % 2) in
+    let h : n ≤ 2 ^ 24 = omega (arith, summing-few _ _ _ _ (c .before .before .before .before .before .before .before .loop .inv) (search needs), c .before .before .before .before .before .before .before .before .before .before .before .before .pre .countable) in
+    le→leb n (2 ^ 24) h
+
+min-f32-requires : tie.Need-min-f32-requires Inv-loop μ-loop
+min-f32-requires c κs = search needs
+
+tag-requires : tie.Need-tag-requires Inv-loop μ-loop
+tag-requires c κs = (subst (λ (x : Float). T (not (isNan x))) (sym (c .min-f32 .ensures)) (least-number one _ one-number), search needs)
+
+mul-keys : tie.Need-mul-keys Inv-loop μ-loop
+mul-keys c = search needs
+
+slice-write-keys : tie.Need-slice-write-keys Inv-loop μ-loop
+slice-write-keys c = search needs
+
+add-i : tie.Need-add-i Inv-loop μ-loop
+add-i c = search needs
+
+loop-less : tie.Need-loop-less Inv-loop μ-loop
+loop-less c = search needs
+
+loop-again : tie.Need-loop-again Inv-loop μ-loop
+loop-again c =
+    summing-step _ _ _ _ (c .before .before .before .before .before .before .before .before .before .loop .inv) (search needs) _ _ _ _ _ _
+    (c .before .before .before .before .before .before .score-of .ensures) (c .before .before .before .before .before .widen .ensures) (c .before .before .before .before .posterior-at .ensures) (c .before .before .before .narrow .ensures) (c .before .min-f32 .ensures) (c .tag .ensures)
+
+same-length : tie.Need-same-length Inv-loop μ-loop
+same-length c = search needs
+
+returns : tie.Need-returns Inv-loop μ-loop
+returns c = summing-done _ _ _ _ (c .before .loop .inv) (search needs)
+
+pub write-ratios-spec : {M : Type 1} → statement M
+write-ratios-spec =
+    tie.close
+    (tie.spec
+    Inv-loop
+    μ-loop
+    loop-holds
+    mul-along
+    slice-read-along
+    score-of-requires
+    widen-requires
+    posterior-at-requires
+    narrow-requires
+    cast-target
+    sub-target
+    add-target
+    int-to-float-min-f32
+    min-f32-requires
+    tag-requires
+    mul-keys
+    slice-write-keys
+    add-i
+    loop-less
+    loop-again
+    same-length
+    returns)

@@ -1,0 +1,88 @@
+-- `fdr::write_rows` meets its contract: the column is written from the front (`Writing`). Assumes nothing.
+use mathlib.Core.Path.{_≡_, ap, _∙_}
+use mathlib.Core.Bool.{false}
+use Prim.Native.Nat.{_+_, _-_, _*_, _<_}
+use mir.Syntax.{w32}
+use mir.ValLaws.{toZ-ofZ}
+use lib.Dec.{eqb}
+use lib.IntN.{pos}
+use lib.ListN.{length, getD}
+use lib.Ieee.{nan}
+use Rattle.folds.proofs.Columns.{Writing, writing-start, writing-step, writing-done}
+use Rattle.fdr.specs.Passes.{rowOf}
+use Rattle.fdr.proofs.Keys.{all-at}
+use borrow.Author.Needs.{needs}
+use Rattle.fdr.proofs.write_rows.Statement.{statement}
+use Rattle.fdr.proofs.write_rows.Tie as tie
+
+abbrev Inv-loop : tie.InvT-loop
+Inv-loop names column slots labels q₀ i₀ i-end q i = Writing (λ k. rowOf names column (getD slots k 0) (getD labels k (pos 0))) nan (length slots) q i
+
+abbrev μ-loop : tie.MeasureT-loop
+μ-loop names column slots labels q₀ i₀ i-end q i = length slots - i
+
+loop-holds : tie.Need-loop-holds Inv-loop μ-loop
+loop-holds c = writing-start (c .before .before .before .pre .1 .1)
+
+mul-row-q : tie.Need-mul-row-q Inv-loop μ-loop
+mul-row-q c = search needs
+
+shared-slice-read-row-q : tie.Need-shared-slice-read-row-q Inv-loop μ-loop
+shared-slice-read-row-q c = search needs
+
+mul-row-q-2 : tie.Need-mul-row-q-2 Inv-loop μ-loop
+mul-row-q-2 c = search needs
+
+shared-slice-copy-out-row-q : tie.Need-shared-slice-copy-out-row-q Inv-loop μ-loop
+shared-slice-copy-out-row-q c = search needs
+
+row-q-requires : tie.Need-row-q-requires Inv-loop μ-loop
+row-q-requires c κs =
+    let s = c .before .before .before .before .before .before .before in
+    (s .pre .0 .0, all-at (λ n. eqb n 4294967295 ≡ false → n * 2 + 1 < length (s .args .column .now)) (s .args .slots .now) (s .pre .0 .1) (c .before .before .before .loop .i) (search needs))
+
+mul-q : tie.Need-mul-q Inv-loop μ-loop
+mul-q c = search needs
+
+slice-write-q : tie.Need-slice-write-q Inv-loop μ-loop
+slice-write-q c = search needs
+
+add-i : tie.Need-add-i Inv-loop μ-loop
+add-i c = search needs
+
+loop-less : tie.Need-loop-less Inv-loop μ-loop
+loop-less c = search needs
+
+loop-again : tie.Need-loop-again Inv-loop μ-loop
+loop-again c =
+    let s = c .before .before .before .before .before .before .before .before in
+    let i = c .before .before .before .before .loop .i in
+    writing-step (c .before .before .before .before .loop .inv) (search needs)
+    (c .row-q .ensures
+    ∙ ap (rowOf (s .args .names) (s .args .column .now) (getD (s .args .slots .now) i 0)) (toZ-ofZ w32 (getD (s .args .labels .now) i (pos 0)) (search needs)))
+
+same-length : tie.Need-same-length Inv-loop μ-loop
+same-length c = search needs
+
+returns : tie.Need-returns Inv-loop μ-loop
+returns c = writing-done (c .before .loop .inv) (search needs)
+
+pub write-rows-spec : {M : Type 1} → statement M
+write-rows-spec =
+    tie.close
+    (tie.spec
+    Inv-loop
+    μ-loop
+    loop-holds
+    mul-row-q
+    shared-slice-read-row-q
+    mul-row-q-2
+    shared-slice-copy-out-row-q
+    row-q-requires
+    mul-q
+    slice-write-q
+    add-i
+    loop-less
+    loop-again
+    same-length
+    returns)

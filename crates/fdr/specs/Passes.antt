@@ -1,0 +1,135 @@
+-- What the working columns carry from pass to pass, and what each pass asks. None of this is seen from outside.
+use mathlib.Core.Path.{_≡_}
+use mathlib.Core.List.{List, [], _∷_, map}
+use mathlib.Core.Bool.{Bool, true, not, cond, _&&_}
+use Prim.Native.Nat.{ℕ, _+_, _-_, _*_, _/_, _%_, _≤_, _<_}
+use lib.Dec.{T, leb, eqb}
+use lib.IntN.{ℤ, pos, negsuc}
+use lib.ListN.{length, getD, set}
+use lib.Ieee.{Float, nan, binary32, isNan, ofBits, toBits}
+use Rattle.floats.specs.Least.{lesser}
+use Rattle.columns.specs.Refusals.{longest}
+use Rattle.columns.specs.declared.Outcome.{Outcome}
+use Rattle.columns.specs.declared.Outcome.the-variants.{Accepted, Refused}
+use Rattle.columns.specs.declared.Refusal.the-variants.{TooLong, WrongLength, OutOfRange, NoSuchSlot}
+use Rattle.counting.specs.Labels.{isDecoy}
+use Rattle.ranking.specs.Keys.{packed}
+use Rattle.kde.specs.Answers.{inRange}
+use Rattle.kde.specs.declared.Estimator.{Estimator}
+use Rattle.competition.specs.Tables.{Table, noPart, allAllowed}
+use Rattle.fdr.specs.declared.Names.{Names}
+use Rattle.fdr.specs.Rows.{Side}
+use Rattle.fdr.specs.QValues.{one, ratiosFrom, nameOf}
+
+-- ---- a side's key: its score above, and along with it twice its slot, and one more for a decoy
+
+abbrev pub alongOf : Side → ℕ
+alongOf s = s .slot * 2 + cond (s .decoy) 1 0
+
+abbrev pub sideKey : Side → ℕ
+sideKey s = packed (s .score) (alongOf s)
+
+-- the score of the side that goes along
+abbrev pub scoreAt : Table → ℕ → Float
+scoreAt t along = cond (eqb (along % 2) 1) (getD (t .reverse) (along / 2) nan) (getD (t .forward) (along / 2) nan)
+
+abbrev pub sideAlong : Table → ℕ → Side
+sideAlong t along = record { slot = along / 2; decoy = eqb (along % 2) 1; score = scoreAt t along }
+
+-- the side that a key is of
+abbrev pub sideOf : Table → ℕ → Side
+sideOf t key = sideAlong t (key % 4294967296)
+
+-- how many keys are of targets
+unfoldable pub plain : List ℕ → ℕ
+plain [] = 0
+plain (k ∷ ks) = 1 - k % 4294967296 % 2 + plain ks
+
+-- ---- numbers in the scores' places
+
+-- the bits of each number, and what went along
+unfoldable pub tagged : List Float → List ℕ → List ℕ
+tagged [] keys = []
+tagged (q ∷ qs) [] = []
+tagged (q ∷ qs) (k ∷ ks) = (toBits binary32 q * 4294967296 + k % 4294967296) ∷ tagged qs ks
+
+abbrev pub numberOf : ℕ → Float
+numberOf key = ofBits binary32 (key / 4294967296)
+
+abbrev pub labelAlong : ℕ → ℤ
+labelAlong along = cond (eqb (along % 2) 1) (negsuc 0) (pos 0)
+
+abbrev pub labelOf : ℕ → ℤ
+labelOf key = labelAlong (key % 4294967296)
+
+-- the ratios of the keys' sides, from a sum and a count on; a ratio above 1.0 and a NaN count as 1.0, which no minimum from 1.0 on can tell
+abbrev pub cappedFrom : Estimator → List Float → Table → Float → ℕ → List ℕ → List Float
+cappedFrom e bins t sum targets keys = map (lesser one) (ratiosFrom e bins sum targets (map (sideOf t) keys))
+
+-- ---- the names' column
+
+-- the bits of each key's number at its name
+unfoldable pub named : Names → List ℕ → List ℕ → List ℕ
+named names [] column = column
+named names (k ∷ ks) column =
+    let along = k % 4294967296 in named names ks (set column (nameOf names (along / 2) (eqb (along % 2) 1)) (k / 4294967296))
+
+abbrev pub rowOf : Names → List ℕ → ℕ → ℤ → Float
+rowOf names column slot label = cond (eqb slot noPart) one (ofBits binary32 (getD column (nameOf names slot (isDecoy label)) 0))
+
+-- ---- what passes ask
+
+abbrev pub All : (ℕ → Type 0) → List ℕ → Type 0
+All P [] = Unit {0}
+All P (x ∷ xs) = P x × All P xs
+
+-- the slot that a key names is below n
+abbrev pub Within : ℕ → ℕ → Type 0
+Within n key = key % 4294967296 / 2 < n
+
+-- the bits of a float that is no NaN
+pub record Bits (n : ℕ) : Type 0 where
+  pub small : n < 4294967296
+  pub number : T (not (isNan (ofBits binary32 n)))
+
+abbrev pub Tagged : ℕ → Type 0
+Tagged key = Bits (key / 4294967296)
+
+-- a table's columns have one entry per slot, and there are two keys to a slot
+pub record Even (t : Table) (keys : ℕ) : Type 0 where
+  pub short : length (t .forward) ≤ longest
+  pub reverse-fit : length (t .reverse) ≡ length (t .forward)
+  pub forward-marks : length (t .forwardSeen) ≡ length (t .forward)
+  pub reverse-marks : length (t .reverseSeen) ≡ length (t .forward)
+  pub keys-fit : keys ≡ 2 * length (t .forward)
+
+-- bins in range, the sides of all keys in the table, and few enough targets to be counted in f32
+pub record Ratable (bins forward reverse : ℕ) (keys : List ℕ) : Type 0 where
+  pub some : 1 ≤ bins
+  pub few : bins ≤ 65536
+  pub reverse-fit : reverse ≡ forward
+  pub within : All (Within forward) keys
+  pub countable : plain keys ≤ longest
+
+-- ---- the questions, of so many bins, slots, marks, labels, keys, spares and places of the result
+
+unfoldable pub asked : ℕ → ℕ → ℕ → ℕ → ℕ → List ℕ → ℕ → ℕ → ℕ → ℕ → Outcome
+unfolding allAllowed
+asked bins forward reverse forwardSeen reverseSeen slots labels keys spare q =
+    cond (leb (length slots) longest
+    && (leb labels longest && (leb forward longest && (leb reverse longest && (leb forwardSeen longest && leb reverseSeen longest)))))
+    (cond (eqb labels (length slots)
+    && (eqb q (length slots) && ((eqb reverse forward && (eqb forwardSeen forward && eqb reverseSeen forward)) && (eqb keys (2 * forward) && eqb spare (2 * forward)))))
+    (cond (inRange bins) (cond (allAllowed forward slots) Accepted (Refused NoSuchSlot)) (Refused OutOfRange))
+    (Refused WrongLength))
+    (Refused TooLong)
+
+-- what they let pass
+pub record Ready (t : Table) (bins : ℕ) (slots : List ℕ) (labels keys spare q : ℕ) : Type 0 where
+  pub even : Even t keys
+  pub spare-fit : spare ≡ 2 * length (t .forward)
+  pub labels-fit : labels ≡ length slots
+  pub q-fit : q ≡ length slots
+  pub some : 1 ≤ bins
+  pub few : bins ≤ 65536
+  pub slots-allowed : allAllowed (length (t .forward)) slots ≡ true

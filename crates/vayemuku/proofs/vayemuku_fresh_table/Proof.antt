@@ -1,0 +1,23 @@
+-- `vayemuku::vayemuku_fresh_table` meets its contract: the number and the table of what the call answers. Assumes nothing.
+use mathlib.Core.Path.{ap, _∙_}
+use borrow.Author.Needs.{needs}
+use Rattle.columns.specs.Refusals.{outcomeNumber}
+use Rattle.vayemuku.proofs.vayemuku_fresh_table.Statement.{statement}
+use Rattle.vayemuku.proofs.vayemuku_fresh_table.Tie as tie
+
+returns : tie.Need-returns
+returns c =
+    let told = c .before .before .before .before .before .before .before .before .before .fresh-table .ensures in
+    (c .outcome-number .ensures ∙ ap outcomeNumber (told .0), told .1)
+
+pub vayemuku-fresh-table-spec : {M : Type 1} → statement M
+vayemuku-fresh-table-spec =
+    tie.close
+    (tie.spec
+    (λ c κs. search needs)
+    (λ c κs. search needs)
+    (λ c. search needs)
+    (λ c. search needs)
+    (λ c. search needs)
+    (λ c. search needs)
+    returns)
