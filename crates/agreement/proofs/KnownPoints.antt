@@ -1,0 +1,37 @@
+-- The table of known points, by computation, and by the points of `gauss`, `kde`, `competition` and `fdr`. Assumes nothing.
+use mathlib.Core.Path.{_≡_, refl}
+use lib.Ieee.{nan, ofBits, ofInt, div, lt, le, round}
+use Rattle.folds.specs.Columns.{tabulated}
+use Rattle.floats.specs.Least.{lesser}
+use Rattle.floats.specs.Ratio.{oneIn}
+use Rattle.counting.specs.Labels.{decoys, targets}
+use Rattle.counting.specs.Lines.{lastRow}
+use Rattle.counting.specs.QValues.{ratioAt, ratios, lowest, lows, qValues, atMost}
+use Rattle.qvalue.specs.Spectrum.{spectrumAnswer, spectrumColumn}
+use Rattle.line_check.specs.Check.{lineAnswer}
+use Rattle.gauss.proofs.Known as systems
+use Rattle.kde.proofs.Points as errors
+use Rattle.competition.proofs.Batches as ties
+use Rattle.fdr.specs.declared.Names.the-variants.{Two}
+use Rattle.fdr.proofs.Points as competitions
+use Rattle.agreement.specs.KnownPoints.{KnownPoints}
+
+pub known-points : KnownPoints
+unfolding spectrumAnswer spectrumColumn lineAnswer lastRow qValues ratios ratioAt lows lowest atMost tabulated lesser oneIn decoys targets ofBits ofInt div lt le round
+known-points = record {
+  no-rows = refl;
+  no-rows-line = refl;
+  one-decoy = refl;
+  three-rows = refl;
+  twenty = refl;
+  nineteen = refl;
+  minus-small = systems.minus-small;
+  not-a-number = systems.not-a-number;
+  between = errors.between;
+  past = errors.past;
+  under = errors.under;
+  ppm = errors.ppm-10;
+  equal-sides = ties.equal-sides;
+  two-slots-count = competitions.two-targets-count;
+  two-slots = competitions.two-targets-q Two nan nan;
+}

@@ -1,0 +1,84 @@
+-- Document 01's known points, those that it marks, as one table over the definitions that the calls are proved equal to.
+use mathlib.Core.Path.{_≡_}
+use mathlib.Core.List.{List, [], _∷_, _++_}
+use mathlib.Core.Bool.{true, false}
+use Prim.Native.Nat.{ℕ}
+use lib.IntN.{ℤ, pos, negsuc}
+use lib.ListN.{getD, replicate}
+use lib.Dec.{T}
+use lib.Ieee.{Float, nan, fin, neg, eq}
+use Rattle.columns.specs.declared.Counted.the-variants.{Passing}
+use Rattle.columns.specs.declared.Refusal.the-variants.{Unsolved}
+use Rattle.qvalue.specs.Spectrum.{spectrumAnswer, spectrumColumn}
+use Rattle.line_check.specs.Check.{lineAnswer}
+use Rattle.line_check.specs.declared.Counts.{Counts}
+use Rattle.line_check.specs.declared.Line.the-variants.{Right}
+use Rattle.gauss.specs.Elimination.{Row, Table, entry, small, nought}
+use Rattle.gauss.specs.Solutions.{solution, answered, blank}
+use Rattle.kde.specs.declared.Estimator.{Estimator}
+use Rattle.kde.specs.declared.Tolerance.the-variants.{Ppm}
+use Rattle.kde.specs.declared.BinCount.the-variants.{Bins}
+use Rattle.kde.specs.Estimate.{posteriorError}
+use Rattle.kde.specs.Tolerances.{binCountAnswer}
+use Rattle.competition.specs.Tables.{tableOf, lowest, Table as CompetitionTable}
+use Rattle.competition.specs.Winners.{slotSeen, decoyFlag}
+use Rattle.fdr.specs.declared.Names.the-variants.{Two}
+use Rattle.fdr.specs.QValues.{assignAnswer, assignColumn}
+
+abbrev pub target : ℤ
+target = pos 1
+
+abbrev pub decoy : ℤ
+decoy = negsuc 0
+
+-- a whole number as a float
+abbrev pub whole : ℕ → Float
+whole n = fin false n (pos 0)
+
+-- so many targets, then one decoy
+abbrev pub thenDecoy : ℕ → List ℤ
+thenDecoy n = replicate n target ++ (decoy ∷ [])
+
+abbrev pub counts : ℕ → ℕ → ℕ → Counts
+counts row decoys targets = record { row = row; decoys = decoys; targets = targets }
+
+abbrev pub estimator : Float → Float → Estimator
+estimator least step = record { «min_score» = least; «score_step» = step }
+
+-- 0.5 and 0.25
+abbrev pub halves : List Float
+halves = fin false 1 (negsuc 0) ∷ fin false 1 (negsuc 1) ∷ []
+
+-- two slots whose forward sides are seen, with 2.0 and 1.0
+abbrev pub twoSlots : CompetitionTable
+twoSlots = tableOf (fin false 1 (pos 1) ∷ whole 1 ∷ []) (lowest ∷ lowest ∷ []) (1 ∷ 1 ∷ []) (0 ∷ 0 ∷ [])
+
+pub record KnownPoints : Type 0 where
+  -- "no rows: count 0, line 0 right"
+  pub no-rows : spectrumAnswer [] 0 ≡ Passing 0
+  pub no-rows-line : lineAnswer 100 [] 0 ≡ Right (counts 0 1 0)
+  -- "one decoy: q 1.0"
+  pub one-decoy : spectrumColumn (decoy ∷ []) (nan ∷ []) ≡ whole 1 ∷ []
+  -- "target, decoy, target: q 1, 1, 1"
+  pub three-rows : spectrumColumn (target ∷ decoy ∷ target ∷ []) (replicate 3 nan) ≡ replicate 3 (whole 1)
+  -- "20 targets, one decoy at one in 20: line 20, 20 targets"; "19 targets: line 0"
+  pub twenty : lineAnswer 20 (thenDecoy 20) 20 ≡ Right (counts 20 1 20)
+  pub nineteen : lineAnswer 20 (thenDecoy 19) 0 ≡ Right (counts 0 1 0)
+  -- "system [−1E-8], right side 5: answer 5", whatever stands past the size
+  pub minus-small : (left : Table) (right : Row) → entry left 0 0 ≡ neg small → getD right 0 nan ≡ whole 5
+      → solution left right 1 ≡ answered (whole 5 ∷ replicate 19 nought)
+  -- "system [NaN]: 7"
+  pub not-a-number : (left : Table) (right : Row) → entry left 0 0 ≡ nan → solution left right 1 ≡ blank Unsolved
+  -- "bins 0.5, 0.25, least 0, step 1: score 0.5 gives 0.375; 2 gives 0.25; −3 gives 1.25"
+  pub between : posteriorError (estimator (whole 0) (whole 1)) halves (fin false 1 (negsuc 0)) ≡ fin false 3 (negsuc 2)
+  pub past : posteriorError (estimator (whole 0) (whole 1)) halves (fin false 1 (pos 1)) ≡ fin false 1 (negsuc 1)
+  pub under : posteriorError (estimator (whole 0) (whole 1)) halves (fin true 3 (pos 0)) ≡ fin false 5 (negsuc 1)
+  -- "ppm −10 to 10: 100 bins"
+  pub ppm : binCountAnswer (Ppm (fin true 5 (pos 1)) (fin false 5 (pos 1))) ≡ Bins 100
+  -- "equal forward and reverse: decoy wins", in every table, for a slot that is seen
+  pub equal-sides : (t : CompetitionTable) (slot : ℕ) → slotSeen t slot ≡ true → T (eq (getD (t .forward) slot nan) (getD (t .reverse) slot nan))
+      → decoyFlag t slot ≡ 1
+  -- "two target slots scored 2.0 and 1.0, bins 0.5, 0.25, least 1, step 1: q 0.875 for both, count 0"
+  pub two-slots-count : assignAnswer (estimator (whole 1) (whole 1)) halves twoSlots (0 ∷ 1 ∷ []) 2 4 4 2 ≡ Passing 0
+  pub two-slots : assignColumn Two (estimator (whole 1) (whole 1)) halves twoSlots (0 ∷ 1 ∷ []) (target ∷ target ∷ []) 4 4 (nan ∷ nan ∷ [])
+      ≡ replicate 2 (fin false 7 (negsuc 2))
