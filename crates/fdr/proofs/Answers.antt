@@ -1,7 +1,7 @@
 -- The four questions and their answers: `ask` answers as the definition, and what it accepts has every length that the passes ask. Assumes nothing.
 use mathlib.Core.Path.{_≡_, refl, sym, ap, ap₂, _∙_}
 use mathlib.Core.List.{List}
-use mathlib.Core.Bool.{Bool, true, false, not, cond, _&&_, false≢true}
+use mathlib.Core.Bool.{Bool, true, false, not, cond, _&&_}
 use Prim.Native.Nat.{ℕ, _*_, _≤_}
 use native.Mathlib.Omega.{arith}
 use borrow.Author.Tests.{leb-true, eqb-true}
@@ -20,9 +20,11 @@ use Rattle.columns.specs.declared.Refusal.the-variants.{TooLong, WrongLength, O
 use Rattle.kde.specs.Answers.{inRange}
 use Rattle.kde.specs.declared.Estimator.{Estimator}
 use Rattle.competition.specs.Tables.{Table, tableShort, tableFits, allAllowed}
+use Rattle.competition.proofs.Slots.{both}
+use Rattle.competition.proofs.Answers.{table-fitting}
 use Rattle.fdr.specs.declared.Names.{Names}
 use Rattle.fdr.specs.QValues.{passing, rowsQ, assignAsked, assignAnswer, assignColumn}
-use Rattle.fdr.specs.Passes.{asked, Even, Ready}
+use Rattle.fdr.specs.Passes.{asked, Ready}
 
 -- ---- tests
 
@@ -33,10 +35,6 @@ no false e = refl
 yes : (b : Bool) → not b ≡ false → b ≡ true
 yes true e = refl
 yes false e = sym e
-
-both : (a b : Bool) → a && b ≡ true → (a ≡ true) × (b ≡ true)
-both true b e = (refl, e)
-both false b e = absurd (false≢true e)
 
 -- the answer by the four tests
 abbrev answered : Bool → Bool → Bool → Bool → Outcome
@@ -107,30 +105,28 @@ all-yes true true false d e = let z : _≡_ {A = ℕ} 0 1 = cc in absurd (omega 
 all-yes true false c d e = let z : _≡_ {A = ℕ} 0 1 = cc in absurd (omega arith)
 all-yes false b c d e = let z : _≡_ {A = ℕ} 0 1 = cc in absurd (omega arith)
 
-pub ready : (bins : ℕ) (t : Table) (slots : List ℕ) (labels keys spare q : ℕ)
-    → asked bins (length (t .forward)) (length (t .reverse)) (length (t .forwardSeen)) (length (t .reverseSeen)) slots labels keys spare q ≡ Accepted
+pub ready : (bins : ℕ) (t : Table) (slots : List ℕ) (labels keys spare q : ℕ) (o : Outcome)
+    → o ≡ asked bins (length (t .forward)) (length (t .reverse)) (length (t .forwardSeen)) (length (t .reverseSeen)) slots labels keys spare q → o ≡ Accepted
     → Ready t bins slots labels keys spare q
 unfolding asked
-ready bins t slots labels keys spare q e =
+ready bins t slots labels keys spare q o is accepts =
     let n = length (t .forward) in
     let rows = length slots in
-    let table = tableTest n (length (t .reverse)) (length (t .forwardSeen)) (length (t .reverseSeen)) in
     let y =
-    all-yes (shortTest rows labels n (length (t .reverse)) (length (t .forwardSeen)) (length (t .reverseSeen))) (fitTest rows labels q table (workingTest n keys spare))
-    (inRange bins) (allAllowed n slots) e in
+    all-yes (shortTest rows labels n (length (t .reverse)) (length (t .forwardSeen)) (length (t .reverseSeen))) (fitTest rows labels q (tableFits t) (workingTest n keys spare))
+    (inRange bins) (allAllowed n slots) (sym is ∙ accepts) in
     let f = both (eqb labels rows) _ (y .1 .0) in
     let g = both (eqb q rows) _ (f .1) in
-    let h = both table _ (g .1) in
-    let i = both (eqb (length (t .reverse)) n) _ (h .0) in
-    let j = both (eqb (length (t .forwardSeen)) n) _ (i .1) in
+    let h = both (tableFits t) _ (g .1) in
+    let i = table-fitting t (h .0) in
     let k = both (eqb keys (2 * n)) _ (h .1) in
     let r = both (leb 1 bins) _ (y .1 .1 .0) in
     record {
       even = record {
         short = leb-true n longest (both (leb n longest) _ (both (leb labels longest) _ (both (leb rows longest) _ (y .0) .1) .1) .0);
-        reverse-fit = eqb-true (length (t .reverse)) n (i .0);
-        forward-marks = eqb-true (length (t .forwardSeen)) n (j .0);
-        reverse-marks = eqb-true (length (t .reverseSeen)) n (j .1);
+        reverse-fit = i .0;
+        forward-marks = i .1;
+        reverse-marks = i .2;
         keys-fit = eqb-true keys (2 * n) (k .0);
       };
       spare-fit = eqb-true spare (2 * n) (k .1);

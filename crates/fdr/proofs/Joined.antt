@@ -1,19 +1,18 @@
 -- The passes joined with the definitions: the keys after the ranking are those of the ranked sides, their numbers the q-values, and a row reads at
 -- its name what the definition gives. Assumes nothing.
 use mathlib.Core.Path.{_≡_, refl, sym, ap, ap₂, _∙_, subst}
-use mathlib.Core.List.{List, [], _∷_, _++_, map, map-map}
+use mathlib.Core.List.{List, [], _∷_, _++_, map}
 use mathlib.Core.Bool.{Bool, true, false, cond}
 use Prim.Native.Nat.{ℕ, zero, suc, _+_, _*_, _/_, _%_, _≤_, _<_, suc-le-suc}
-use native.Mathlib.Nat.{zero-lt-suc, add-zero, add-suc, suc-add, zero-add, le-trans}
+use native.Mathlib.Nat.{zero-lt-suc, add-zero, add-suc, suc-add, le-trans}
 use native.Mathlib.Omega.{arith}
 use lib.Dec.{T, eqb}
 use lib.IntN.{ℤ, pos}
-use lib.ListN.{length, getD, take, drop, replicate, length-map, length-replicate, getD-replicate, length-append, length-drop}
+use lib.ListN.{length, getD, take, drop, replicate, length-map, length-replicate, getD-replicate}
 use lib.Seq.{take-at, length-take-le, length-front}
 use lib.Ieee.{Float, nan, binary32, fits, ofBits}
 use Rattle.folds.specs.Columns.{filled, tabulated}
 use Rattle.floats.specs.Ratio.{oneIn}
-use Rattle.columns.specs.Refusals.{longest}
 use Rattle.counting.specs.Labels.{isDecoy}
 use Rattle.counting.specs.QValues.{lows, targetsAtMost}
 use Rattle.counting.proofs.Lowest.{length-lows}
@@ -21,10 +20,10 @@ use Rattle.ranking.specs.Keys.{sorted}
 use Rattle.kde.specs.declared.Estimator.{Estimator}
 use Rattle.competition.specs.Tables.{Table, noPart}
 use Rattle.fdr.specs.declared.Names.{Names}
-use Rattle.fdr.specs.Rows.{Side, sidesFrom, seenSides, rankedSides}
+use Rattle.fdr.specs.Rows.{Side, seenSides, rankedSides}
 use Rattle.fdr.specs.QValues.{one, ratiosFrom, sideQ, sideLabel, passing, nameOf, qOf, rowQ, rowsQ}
-use Rattle.fdr.specs.Passes.{sideKey, sideAlong, sideOf, plain, tagged, numberOf, labelAlong, labelOf, cappedFrom, named, rowOf, All, Within, Bits, Tagged, Ratable, Ready}
-use Rattle.fdr.proofs.Keys.{AllHeld, all-at, ratios-fit, capped-held, lows-held, length-ratios, length-tagged, tags-bits, numbers-tagged, along-tagged, all-tagged, tagged-again, lows-capped}
+use Rattle.fdr.specs.Passes.{sideKey, sideAlong, sideOf, tagged, numberOf, labelAlong, labelOf, cappedFrom, named, rowOf, All, Within, Bits, Tagged, Ratable, Ready}
+use Rattle.fdr.proofs.Keys.{AllHeld, all-at, ratios-fit, capped-held, lows-held, length-ratios, tags-bits, numbers-tagged, along-tagged, all-tagged, tagged-again, lows-capped}
 use Rattle.fdr.proofs.Naming.{name-within, named-reads, named-bits, ones-bits, length-named, allowed-within}
 use Rattle.fdr.proofs.Sides.{Listed, all-sorted, plain-sorted, seen-listed, listed-within, few-plain, sorted-sides}
 

@@ -9,13 +9,14 @@ use native.Mathlib.Omega.{arith}
 use lib.Dec.{T, not-T, lit≤}
 use mir.Val.{boolByte}
 use lib.ListN.{length, getD}
-use lib.Ieee.{Float, nan, binary32, fits, isNan, lt, le, add, div, ofInt, ofBits, toBits}
+use lib.Ieee.{Float, binary32, fits, isNan, lt, le, ofBits, toBits}
 use lib.Ieee.Fits.{div-fits}
 use lib.Ieee.Bits.{cond-no, ofBits-toBits, toBits-lt, ofBits-fits}
 use Rattle.floats.specs.Least.{lesser}
 use Rattle.floats.proofs.Order.{le-left, lt→not-le, lt-of-lt-of-le, lesser-either, lesser-le-left}
 use Rattle.counting.specs.QValues.{lowest, lows}
-use Rattle.counting.proofs.Lowest.{lesser-number, lowest-number, lowest-most, length-lows}
+use Rattle.counting.proofs.Lowest.{lesser-number, lowest-number, lowest-most}
+use Rattle.ranking.proofs.Ranks.{Fitting}
 use Rattle.kde.specs.declared.Estimator.{Estimator}
 use Rattle.fdr.specs.Rows.{Side}
 use Rattle.fdr.specs.QValues.{one, ratiosFrom}
@@ -79,25 +80,21 @@ lesser-fits : (a b : Float) → T (fits binary32 a) → T (fits binary32 b) → 
 lesser-fits a b p q = elim (lesser-either a b) [ inl e ↦ rw e p | inr e ↦ rw e q ]
 
 -- ratios are of the format, so that their minima, and ratios held to 1.0, can be written
-abbrev pub AllFit : List Float → Type 0
-AllFit [] = Unit {0}
-AllFit (q ∷ qs) = T (fits binary32 q) × AllFit qs
-
-pub ratios-fit : (e : Estimator) (bins : List Float) (sum : Float) (targets : ℕ) (sides : List Side) → AllFit (ratiosFrom e bins sum targets sides)
+pub ratios-fit : (e : Estimator) (bins : List Float) (sum : Float) (targets : ℕ) (sides : List Side) → Fitting (ratiosFrom e bins sum targets sides)
 unfolding ratiosFrom
 ratios-fit e bins sum targets [] = tt
 ratios-fit e bins sum targets (s ∷ ss) = (div-fits binary32 _ _, ratios-fit e bins _ _ ss)
 
-pub capped-held : (rs : List Float) → AllFit rs → AllHeld (map (lesser one) rs)
+pub capped-held : (rs : List Float) → Fitting rs → AllHeld (map (lesser one) rs)
 capped-held [] w = tt
 capped-held (r ∷ rs) w = ((least-number one r one-number, lesser-fits one r one-fits (w .0)), capped-held rs (w .1))
 
-lowest-fits : (rs : List Float) → AllFit rs → T (fits binary32 (lowest rs))
+lowest-fits : (rs : List Float) → Fitting rs → T (fits binary32 (lowest rs))
 unfolding lowest
 lowest-fits [] w = one-fits
 lowest-fits (r ∷ rs) w = lesser-fits (lowest rs) r (lowest-fits rs (w .1)) (w .0)
 
-pub lows-held : (rs : List Float) → AllFit rs → AllHeld (lows rs)
+pub lows-held : (rs : List Float) → Fitting rs → AllHeld (lows rs)
 unfolding lows
 lows-held [] w = tt
 lows-held (r ∷ rs) w = ((lowest-number (r ∷ rs), lowest-fits (r ∷ rs) w), lows-held rs (w .1))

@@ -1,19 +1,19 @@
 -- The column of names: written down the ranked rows, it holds the q-value of the last row that has the name. Assumes nothing.
 use mathlib.Core.Path.{_≡_, refl, sym, ap, ap₂, _∙_, subst}
 use mathlib.Core.List.{List, [], _∷_, map}
-use mathlib.Core.Bool.{Bool, true, false, not, cond, _&&_, _||_, false≢true}
+use mathlib.Core.Bool.{Bool, true, false, cond, _||_, false≢true}
 use Prim.Native.Nat.{ℕ, zero, suc, _+_, _*_, _/_, _%_, _≤_, _<_, zero-le}
 use native.Mathlib.Numerals.{add-one}
 use native.Mathlib.Omega.{arith}
-use lib.Dec.{T, eqb, ltb, lit<}
+use lib.Dec.{eqb, ltb, lit<}
 use borrow.Author.Tests.{eqb-true, eqb-false, ltb-true}
 use lib.ListN.{length, getD, drop, set, replicate, length-set, drop-of-length-le}
 use lib.Seq.{drop-cons, getD-set-same, getD-set-other}
-use lib.Ieee.{Float, binary32, isNan, ofBits}
+use lib.Ieee.{binary32, isNan, ofBits}
 use Rattle.competition.specs.Tables.{Table, noPart, allowed, allAllowed}
+use Rattle.competition.proofs.Slots.{both}
 use Rattle.fdr.specs.declared.Names.{Names}
 use Rattle.fdr.specs.declared.Names.the-variants.{Two, One}
-use Rattle.fdr.specs.Rows.{Side}
 use Rattle.fdr.specs.QValues.{nameOf, qOf}
 use Rattle.fdr.specs.Passes.{sideOf, numberOf, named, All, Bits, Tagged}
 use Rattle.fdr.proofs.Keys.{all-at}
@@ -121,10 +121,6 @@ allowed-within count n e (s ∷ ss) h =
     let b = both (allowed count s) (allAllowed count ss) h in
     ((λ (p : eqb s noPart ≡ false). let l = below (ltb s count) (eqb s noPart) (b .0) p (ltb-true s count) in omega arith), allowed-within count n e ss (b .1))
   where
-    both : (x y : Bool) → x && y ≡ true → (x ≡ true) × (y ≡ true)
-    both true y q = (refl, q)
-    both false y q = absurd (false≢true q)
-
     below : (x y : Bool) → x || y ≡ true → y ≡ false → (x ≡ true → s < count) → s < count
     below true y q p f = f refl
     below false y q p f = absurd (false≢true (sym p ∙ q))

@@ -1,5 +1,5 @@
 -- The pass that packs the seen sides: the keys so far are those of the slots passed. Assumes nothing.
-use mathlib.Core.Path.{_≡_, refl, sym, ap, ap₂, _∙_, subst}
+use mathlib.Core.Path.{_≡_, refl, sym, ap, ap₂, _∙_}
 use mathlib.Core.List.{List, [], _∷_, _++_, map, append-nil, append-assoc, map-append}
 use mathlib.Core.Bool.{Bool, true, false, cond}
 use Prim.Native.Nat.{ℕ, suc, _+_, _-_, _*_, _≤_, _<_, zero-le}
@@ -8,7 +8,7 @@ use native.Mathlib.Numerals.{add-one}
 use native.Mathlib.Omega.{arith}
 use lib.ListN.{length, getD, take, set}
 use lib.Seq.{take-suc-set, take-set-le}
-use lib.Ieee.{Float, nan}
+use lib.Ieee.{nan}
 use mir.Val.{boolByte}
 use Rattle.ranking.specs.Keys.{packed}
 use Rattle.competition.specs.Tables.{Table, isSeen}

@@ -1,15 +1,15 @@
 -- What users ask of a competition's q-values, and points that a reader can check by hand: the q-values of ranked rows never fall; document 01's
 -- known point; and what one name and two names make of a slot whose two sides are seen. Assumes nothing.
-use mathlib.Core.Path.{_≡_, refl, sym, ap}
+use mathlib.Core.Path.{_≡_, refl}
 use mathlib.Core.List.{List, [], _∷_}
-use mathlib.Core.Bool.{true, false}
-use Prim.Native.Nat.{ℕ, suc, _+_, _≤_, _<_}
+use mathlib.Core.Bool.{false}
+use Prim.Native.Nat.{ℕ, _+_, _<_}
 use native.Mathlib.Numerals.{add-one}
 use native.Mathlib.Omega.{arith}
 use lib.Dec.{T}
 use lib.IntN.{ℤ, pos, negsuc}
 use lib.ListN.{length, getD}
-use lib.Ieee.{Float, nan, fin, binary32, binary64, ofBits, ofInt, toUnsigned, add, sub, mul, div, le, round}
+use lib.Ieee.{Float, nan, fin, ofBits, ofInt, toUnsigned, add, sub, mul, div, le}
 use Rattle.floats.specs.Least.{lesser}
 use Rattle.floats.specs.TotalOrder.{before}
 use Rattle.ranking.specs.Ranking.{inserted, rankedFrom}
@@ -21,7 +21,7 @@ use Rattle.competition.specs.Tables.{Table, tableOf, noPart, lowest as unseen}
 use Rattle.fdr.specs.declared.Names.{Names}
 use Rattle.fdr.specs.declared.Names.the-variants.{Two, One}
 use Rattle.fdr.specs.Rows.{Side, rankedSides}
-use Rattle.fdr.specs.QValues.{one, ratiosFrom, sideQ, passing, rowQ, rowsQ, assignAnswer, assignColumn}
+use Rattle.fdr.specs.QValues.{one, ratiosFrom, sideQ, rowQ, rowsQ, assignAnswer, assignColumn}
 use Rattle.fdr.proofs.Keys.{length-ratios}
 
 -- ---- the q-values of ranked rows never fall down their list

@@ -5,9 +5,9 @@ use mathlib.Core.List.{List, [], _∷_, _++_, map, map-map}
 use mathlib.Core.Logic.{inl, inr}
 use mathlib.Core.Bool.{Bool, true, false, cond}
 use Prim.Native.Nat.{ℕ, zero, suc, _+_, _-_, _*_, _/_, _%_, _≤_, _<_, suc-le-suc}
-use native.Mathlib.Nat.{not-suc-le-zero, le-of-suc-le-suc, le-trans, le-of-lt, zero-lt-suc, add-zero, add-suc, suc-add, zero-add, le-refl, add-left-comm}
+use native.Mathlib.Nat.{not-suc-le-zero, le-of-suc-le-suc, le-trans, zero-lt-suc, add-zero, add-suc, suc-add, zero-add, le-refl, add-left-comm}
 use native.Mathlib.Omega.{arith}
-use lib.Dec.{T, eqb}
+use lib.Dec.{T, eqb, lit<}
 use lib.ListN.{length, getD, length-map}
 use lib.Ieee.{Float, nan, binary32, fits}
 use Rattle.floats.specs.TotalOrder.{before, orderKey}
@@ -18,8 +18,8 @@ use Rattle.ranking.specs.Keys.{insert, sorted, packed}
 use Rattle.ranking.proofs.Sorting.{insert-here, insert-past}
 use Rattle.ranking.proofs.Ranks.{Fitting, Rising, packedFrom, sorted-ranks, unpacked}
 use Rattle.competition.specs.Tables.{Table, isSeen}
-use Rattle.fdr.specs.Rows.{Side, slotSides, sidesFrom, seenSides, rankedSides}
-use Rattle.fdr.specs.Passes.{alongOf, sideKey, scoreAt, sideAlong, sideOf, plain, All, Within}
+use Rattle.fdr.specs.Rows.{Side, sidesFrom, seenSides, rankedSides}
+use Rattle.fdr.specs.Passes.{alongOf, sideKey, sideAlong, sideOf, plain, All, Within}
 
 -- ---- keys in another order
 
@@ -39,7 +39,7 @@ plain-insert : (n : ℕ) (xs : List ℕ) → plain (insert n xs) ≡ plain (n �
 unfolding plain
 plain-insert n [] = unfold insert in refl
 plain-insert n (x ∷ xs) = elim (lt-or-ge x n) [
-  | inl k ↦ rw (insert-past n x xs k, plain-insert n xs, add-left-comm)
+  | inl k ↦ rw (insert-past n x xs k, plain-insert n xs) (add-left-comm (1 - x % 4294967296 % 2) (1 - n % 4294967296 % 2) (plain xs))
   | inr k ↦ rw (insert-here n x xs k)
 ]
 
@@ -50,13 +50,14 @@ plain-sorted (x ∷ xs) = plain-insert x (sorted xs) ∙ ap (λ (n : ℕ). 1 - x
 
 -- ---- the list of seen sides
 
--- a side's number is from lo on and below hi, and its score is the table's, of the format
+abbrev side : Table → ℕ → Bool → Side
+side t slot decoy = record { slot = slot; decoy = decoy; score = cond decoy (getD (t .reverse) slot nan) (getD (t .forward) slot nan) }
+
+-- a side's number is from lo on and below hi, and says which of the table's sides it is; its score is of the format
 pub record OfTable (t : Table) (lo hi : ℕ) (s : Side) : Type 0 where
   pub low : lo ≤ alongOf s
   pub high : alongOf s < hi
-  pub score-is : s .score ≡ scoreAt t (alongOf s)
-  pub slot-is : alongOf s / 2 ≡ s .slot
-  pub decoy-is : eqb (alongOf s % 2) 1 ≡ s .decoy
+  pub back : sideAlong t (alongOf s) ≡ s
   pub fit : T (fits binary32 (s .score))
 
 -- and the numbers rise
@@ -66,42 +67,26 @@ Listed t lo hi (s ∷ ss) = OfTable t lo hi s × Listed t (suc (alongOf s)) hi s
 
 listed-down : (t : Table) (lo lo′ hi : ℕ) (ss : List Side) → lo′ ≤ lo → Listed t lo hi ss → Listed t lo′ hi ss
 listed-down t lo lo′ hi [] h w = tt
-listed-down t lo lo′ hi (s ∷ ss) h w =
-    let o = w .0 in
-    (record { low = le-trans h (o .low); high = o .high; score-is = o .score-is; slot-is = o .slot-is; decoy-is = o .decoy-is; fit = o .fit }, w .1)
+listed-down t lo lo′ hi (s ∷ ss) h w = let o = w .0 in (record { low = le-trans h (o .low); high = o .high; back = o .back; fit = o .fit }, w .1)
+
+halved : (slot f : ℕ) → f < 2 → (slot * 2 + f) / 2 ≡ slot
+halved slot f h = omega arith
+
+parity : (slot f : ℕ) → f < 2 → (slot * 2 + f) % 2 ≡ f
+parity slot f h = omega arith
+
+side-back : (t : Table) (slot : ℕ) (decoy : Bool) → sideAlong t (slot * 2 + cond decoy 1 0) ≡ side t slot decoy
+side-back t slot true =
+    ap₂ (λ (n p : ℕ). record { slot = n; decoy = eqb p 1; score = cond (eqb p 1) (getD (t .reverse) n nan) (getD (t .forward) n nan) }) (halved slot 1 (lit< tt)) (parity slot 1 (lit< tt))
+side-back t slot false =
+    ap₂ (λ (n p : ℕ). record { slot = n; decoy = eqb p 1; score = cond (eqb p 1) (getD (t .reverse) n nan) (getD (t .forward) n nan) }) (halved slot 0 (lit< tt)) (parity slot 0 (lit< tt))
 
 module _ (t : Table) (forward-fit : (i : ℕ) → T (fits binary32 (getD (t .forward) i nan))) (reverse-fit : (i : ℕ) → T (fits binary32 (getD (t .reverse) i nan))) where
-  halves : (slot : ℕ) → (slot * 2 + 0) / 2 ≡ slot
-  halves slot = omega arith
+  of-forward : (slot hi : ℕ) → slot * 2 + 1 < hi → OfTable t (slot * 2) hi (side t slot false)
+  of-forward slot hi h = record { low = omega arith; high = omega arith; back = side-back t slot false; fit = forward-fit slot }
 
-  even : (slot : ℕ) → (slot * 2 + 0) % 2 ≡ 0
-  even slot = omega arith
-
-  halves-decoy : (slot : ℕ) → (slot * 2 + 1) / 2 ≡ slot
-  halves-decoy slot = omega arith
-
-  odd : (slot : ℕ) → (slot * 2 + 1) % 2 ≡ 1
-  odd slot = omega arith
-
-  of-forward : (slot hi : ℕ) → slot * 2 + 1 < hi → OfTable t (slot * 2) hi (record { slot = slot; decoy = false; score = getD (t .forward) slot nan })
-  of-forward slot hi h = record {
-    low = omega arith;
-    high = omega arith;
-    score-is = sym (ap₂ (λ (p s : ℕ). cond (eqb p 1) (getD (t .reverse) s nan) (getD (t .forward) s nan)) (even slot) (halves slot));
-    slot-is = halves slot;
-    decoy-is = ap (λ (p : ℕ). eqb p 1) (even slot);
-    fit = forward-fit slot;
-  }
-
-  of-reverse : (slot lo hi : ℕ) → lo ≤ slot * 2 + 1 → slot * 2 + 1 < hi → OfTable t lo hi (record { slot = slot; decoy = true; score = getD (t .reverse) slot nan })
-  of-reverse slot lo hi l h = record {
-    low = l;
-    high = h;
-    score-is = sym (ap₂ (λ (p s : ℕ). cond (eqb p 1) (getD (t .reverse) s nan) (getD (t .forward) s nan)) (odd slot) (halves-decoy slot));
-    slot-is = halves-decoy slot;
-    decoy-is = ap (λ (p : ℕ). eqb p 1) (odd slot);
-    fit = reverse-fit slot;
-  }
+  of-reverse : (slot lo hi : ℕ) → lo ≤ slot * 2 + 1 → slot * 2 + 1 < hi → OfTable t lo hi (side t slot true)
+  of-reverse slot lo hi l h = record { low = l; high = h; back = side-back t slot true; fit = reverse-fit slot }
 
   pub sides-listed : (slot k hi : ℕ) → (slot + k) * 2 ≤ hi → Listed t (slot * 2) hi (sidesFrom t slot k)
   unfolding sidesFrom
@@ -113,8 +98,7 @@ module _ (t : Table) (forward-fit : (i : ℕ) → T (fits binary32 (getD (t .for
       last = omega arith
 
       go : (f r : Bool) (later : List Side) → Listed t (suc slot * 2) hi later
-          → Listed t (slot * 2) hi ((cond f (record { slot = slot; decoy = false; score = getD (t .forward) slot nan } ∷ []) []
-          ++ cond r (record { slot = slot; decoy = true; score = getD (t .reverse) slot nan } ∷ []) []) ++ later)
+          → Listed t (slot * 2) hi ((cond f (side t slot false ∷ []) [] ++ cond r (side t slot true ∷ []) []) ++ later)
       go true true later w = (of-forward slot hi last, (of-reverse slot (suc (slot * 2 + 0)) hi (omega arith) last, listed-down t (suc slot * 2) (suc (slot * 2 + 1)) hi later (omega arith) w))
       go true false later w = (of-forward slot hi last, listed-down t (suc slot * 2) (suc (slot * 2 + 0)) hi later (omega arith) w)
       go false true later w = (of-reverse slot (slot * 2) hi (omega arith) last, listed-down t (suc slot * 2) (suc (slot * 2 + 1)) hi later (omega arith) w)
@@ -148,12 +132,6 @@ listed-fit : (t : Table) (lo hi : ℕ) (ss : List Side) → Listed t lo hi ss �
 listed-fit t lo hi [] w = tt
 listed-fit t lo hi (s ∷ ss) w = (w .0 .fit, listed-fit t (suc (alongOf s)) hi ss (w .1))
 
--- its number names it
-side-back : {t : Table} {lo hi : ℕ} {s : Side} → OfTable t lo hi s → sideAlong t (alongOf s) ≡ s
-side-back {t} {lo} {hi} {s} o =
-    ap₂ (λ (n : ℕ) (d : Bool). record { slot = n; decoy = d; score = scoreAt t (alongOf s) }) (o .slot-is) (o .decoy-is)
-    ∙ ap (λ (x : Float). record { slot = s .slot; decoy = s .decoy; score = x }) (sym (o .score-is))
-
 -- ---- the keys
 
 -- each key names a slot of the table
@@ -177,8 +155,7 @@ few-plain t slot (suc k) = go (isSeen (getD (t .forwardSeen) slot 0)) (isSeen (g
     decoy h = omega arith
 
     go : (f r : Bool) (later : List Side) → plain (map sideKey later) ≤ k
-        → plain (map sideKey ((cond f (record { slot = slot; decoy = false; score = getD (t .forward) slot nan } ∷ []) []
-        ++ cond r (record { slot = slot; decoy = true; score = getD (t .reverse) slot nan } ∷ []) []) ++ later)) ≤ suc k
+        → plain (map sideKey ((cond f (side t slot false ∷ []) [] ++ cond r (side t slot true ∷ []) []) ++ later)) ≤ suc k
     go true true later h = let d = decoy (4294967295 - orderKey binary32 (getD (t .reverse) slot nan)) in omega arith
     go true false later h = omega arith
     go false true later h = let d = decoy (4294967295 - orderKey binary32 (getD (t .reverse) slot nan)) in omega arith
@@ -238,4 +215,4 @@ sorted-sides t short w =
     go [] v = refl
     go (r ∷ rs) v =
         ap₂ _∷_ (ap (sideAlong t) (unpacked (r .score) (alongAt (seenSides t) (r .place)) (small (r .place) (v .0)))
-        ∙ side-back (listed-at t 0 (length (t .forward) * 2) (seenSides t) w (r .place) (v .0))) (go rs (v .1))
+        ∙ listed-at t 0 (length (t .forward) * 2) (seenSides t) w (r .place) (v .0) .back) (go rs (v .1))

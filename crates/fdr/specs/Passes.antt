@@ -1,7 +1,7 @@
 -- What the working columns carry from pass to pass, and what each pass asks. None of this is seen from outside.
 use mathlib.Core.Path.{_≡_}
 use mathlib.Core.List.{List, [], _∷_, map}
-use mathlib.Core.Bool.{Bool, true, not, cond, _&&_}
+use mathlib.Core.Bool.{true, not, cond, _&&_}
 use Prim.Native.Nat.{ℕ, _+_, _-_, _*_, _/_, _%_, _≤_, _<_}
 use lib.Dec.{T, leb, eqb}
 use lib.IntN.{ℤ, pos, negsuc}
@@ -62,7 +62,7 @@ labelAlong along = cond (eqb (along % 2) 1) (negsuc 0) (pos 0)
 abbrev pub labelOf : ℕ → ℤ
 labelOf key = labelAlong (key % 4294967296)
 
--- the ratios of the keys' sides, from a sum and a count on; a ratio above 1.0 and a NaN count as 1.0, which no minimum from 1.0 on can tell
+-- the ratios of the keys' sides, from a sum and a count on; a ratio above 1.0 and a NaN stand as 1.0, and a minimum that starts there comes out the same
 abbrev pub cappedFrom : Estimator → List Float → Table → Float → ℕ → List ℕ → List Float
 cappedFrom e bins t sum targets keys = map (lesser one) (ratiosFrom e bins sum targets (map (sideOf t) keys))
 

@@ -66,18 +66,10 @@ fn pack(
     let mut rows: usize = 0;
     for slot in 0..forward.len() {
         let along = slot as u32 * 2;
-        rows = put(
-            keys,
-            rows,
-            forward_seen[slot],
-            ranking::key(forward[slot], along),
-        );
-        rows = put(
-            keys,
-            rows,
-            reverse_seen[slot],
-            ranking::key(reverse[slot], along + 1),
-        );
+        let ahead = ranking::key(forward[slot], along);
+        let behind = ranking::key(reverse[slot], along + 1);
+        rows = put(keys, rows, forward_seen[slot], ahead);
+        rows = put(keys, rows, reverse_seen[slot], behind);
     }
     rows
 }
@@ -102,8 +94,8 @@ fn score_of(forward: &[f32], reverse: &[f32], along: u64) -> f32
     forward[slot]
 }
 
-// Down the ranked rows: the sum of the posterior errors, over the targets so far, takes the place of the score. A ratio above 1.0 or a NaN is written
-// as 1.0, at which the minimum starts: it stays as it is.
+// Down the ranked rows: the sum of the posterior errors, over the targets so far, takes the place of the score. A ratio above 1.0 and a NaN are
+// written as 1.0: the minimum starts there, so that it comes out the same.
 fn write_ratios(
     estimator: Estimator,
     bins: &[f64],
@@ -163,7 +155,7 @@ fn rank(
     take_minima(keys)
 }
 
-// The q-value of every name, as bits: 1.0 where no row has it, and a later row's over an earlier one's.
+// The q-value of every name, as bits: 1.0 where no row has it, and a later row's over an earlier one's, as the Rust's map overwrites.
 fn name_q_values(names: Names, keys: &[u64], column: &mut [u64])
     requires { ⌜ All (λ k. k % 4294967296 / 2 * 2 + 1 < length (now column)) (now keys) ⌝ }
     ensures { λ _. ⌜ now (column .exit) ≡ named names (now (keys .entry)) (filled 1065353216 (now (column .entry))) ⌝ }
@@ -188,6 +180,7 @@ fn row_q(names: Names, column: &[u64], slot: u32, label: i32) -> f32
     f32::from_bits(column[name] as u32)
 }
 
+// Every feature row's q-value.
 fn write_rows(names: Names, column: &[u64], slots: &[u32], labels: &[i32], q: &mut [f32])
     requires { ⌜ All Bits (now column) × All (λ s. eqb s 4294967295 ≡ false → s * 2 + 1 < length (now column)) (now slots) ⌝ }
     requires { ⌜ (length (now labels) ≡ length (now slots)) × (length (now q) ≡ length (now slots)) ⌝ }

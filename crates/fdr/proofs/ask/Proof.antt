@@ -5,38 +5,23 @@ use borrow.Author.Needs.{needs}
 use Rattle.fdr.proofs.ask.Statement.{statement}
 use Rattle.fdr.proofs.ask.Tie as tie
 
-short-enough-requires : tie.Need-short-enough-requires
-short-enough-requires c κs = search needs
-
 returns : tie.Need-returns
 returns c = too-long _ _ _ _ _ _ _ _ _ _ _ (c .before .short-enough .ensures) (c .if1 .taken)
-
-table-fits-requires : tie.Need-table-fits-requires
-table-fits-requires c κs = search needs
 
 two-per-slot-requires : tie.Need-two-per-slot-requires
 two-per-slot-requires c κs =
     let a = c .before .before .before .before .args in
     few-slots (length (a .slots .now)) (a .labels) (a .forward) (a .reverse) (a .forward-seen) (a .reverse-seen) _ (c .before .before .short-enough .ensures) (c .before .if1 .left)
 
-one-per-row-requires : tie.Need-one-per-row-requires
-one-per-row-requires c κs = search needs
-
 returns-2 : tie.Need-returns-2
 returns-2 c =
     wrong-length _ _ _ _ _ _ _ _ _ _ _ (c .before .before .before .before .before .short-enough .ensures) (c .before .before .before .before .if1 .left)
     _ _ _ (c .before .before .before .table-fits .ensures) (c .before .before .two-per-slot .ensures) (c .before .one-per-row .ensures) (c .if2 .taken)
 
-in-range-requires : tie.Need-in-range-requires
-in-range-requires c κs = search needs
-
 returns-3 : tie.Need-returns-3
 returns-3 c =
     out-of-range _ _ _ _ _ _ _ _ _ _ _ (c .before .before .before .before .before .before .before .short-enough .ensures) (c .before .before .before .before .before .before .if1 .left)
     _ _ _ (c .before .before .before .before .before .table-fits .ensures) (c .before .before .before .before .two-per-slot .ensures) (c .before .before .before .one-per-row .ensures) (c .before .before .if2 .left) _ (c .before .in-range .ensures) (c .if3 .taken)
-
-slots-allowed-requires : tie.Need-slots-allowed-requires
-slots-allowed-requires c κs = search needs
 
 returns-4 : tie.Need-returns-4
 returns-4 c =
@@ -54,14 +39,14 @@ pub ask-spec : {M : Type 1} → statement M
 ask-spec =
     tie.close
     (tie.spec
-    short-enough-requires
+    (λ c κs. search needs)
     returns
-    table-fits-requires
+    (λ c κs. search needs)
     two-per-slot-requires
-    one-per-row-requires
+    (λ c κs. search needs)
     returns-2
-    in-range-requires
+    (λ c κs. search needs)
     returns-3
-    slots-allowed-requires
+    (λ c κs. search needs)
     returns-4
     returns-5)

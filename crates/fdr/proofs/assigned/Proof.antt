@@ -32,26 +32,14 @@ ranks c = record {
   same-spare = c .rank .kept .1 .1 .1 .1 .1 .0;
 }
 
-pack-requires : tie.Need-pack-requires
-pack-requires c κs = search needs
-
-slice-relend-prefix-rank : tie.Need-slice-relend-prefix-rank
-slice-relend-prefix-rank c = search needs
-
 slice-aggregate-rank : tie.Need-slice-aggregate-rank
 slice-aggregate-rank c = sym (length-take-le _ _ (search needs))
-
-slice-relend-prefix-rank-2 : tie.Need-slice-relend-prefix-rank-2
-slice-relend-prefix-rank-2 c = search needs
 
 slice-aggregate-rank-2 : tie.Need-slice-aggregate-rank-2
 slice-aggregate-rank-2 c = sym (length-take-le _ _ (search needs))
 
 rank-requires : tie.Need-rank-requires
 rank-requires c κs = rank-asks (packs (c .before .before .before .before))
-
-slice-reshare-prefix-name-q-values : tie.Need-slice-reshare-prefix-name-q-values
-slice-reshare-prefix-name-q-values c = search needs
 
 slice-aggregate-name-q-values : tie.Need-slice-aggregate-name-q-values
 slice-aggregate-name-q-values c = front-length (packs (c .before .before .before .before .before .before .before .before .before .before)) (c .before .before .before .before .before .before .before .before .before .before .before .before .before .before .before .before .before .before .before .before .before .args .names) (ranks (c .before .before .before .before .before))
@@ -62,18 +50,6 @@ name-q-values-requires c κs = names-ask (packs (c .before .before .before .befo
 write-rows-requires : tie.Need-write-rows-requires
 write-rows-requires c κs = rows-ask (packs (c .before .before .before .before .before .before .before .before .before .before .before .before .before .before .before .before)) (c .before .before .before .before .before .before .before .before .before .before .before .before .before .before .before .before .before .before .before .before .before .before .before .before .before .before .before .args .names) (ranks (c .before .before .before .before .before .before .before .before .before .before .before)) _ (c .before .before .before .before .name-q-values .ensures)
 
-clear-requires : tie.Need-clear-requires
-clear-requires c κs = search needs
-
-same-length : tie.Need-same-length
-same-length c = search needs
-
-same-length-2 : tie.Need-same-length-2
-same-length-2 c = search needs
-
-same-length-3 : tie.Need-same-length-3
-same-length-3 c = search needs
-
 returns : tie.Need-returns
 returns c = assigned-all (packs (c .before .before .before .before .before .before .before .before .before .before .before .before .before .before .before .before .before .before .before .before .before .before .before .before .before .before)) (c .before .before .before .before .before .before .before .before .before .before .before .before .before .before .before .before .before .before .before .before .before .before .before .before .before .before .before .before .before .before .before .before .before .before .before .before .before .args .names) (ranks (c .before .before .before .before .before .before .before .before .before .before .before .before .before .before .before .before .before .before .before .before .before)) _ (c .before .before .before .before .before .before .before .before .before .before .before .before .before .before .name-q-values .ensures) _ (c .before .before .before .before .before .before .before .before .before .write-rows .ensures) _ _ (c .before .before .before .before .clear .ensures .0) (c .before .before .before .before .clear .ensures .1)
 
@@ -81,18 +57,18 @@ pub assigned-spec : {M : Type 1} → statement M
 assigned-spec =
     tie.close
     (tie.spec
-    pack-requires
-    slice-relend-prefix-rank
+    (λ c κs. search needs)
+    (λ c. search needs)
     slice-aggregate-rank
-    slice-relend-prefix-rank-2
+    (λ c. search needs)
     slice-aggregate-rank-2
     rank-requires
-    slice-reshare-prefix-name-q-values
+    (λ c. search needs)
     slice-aggregate-name-q-values
     name-q-values-requires
     write-rows-requires
-    clear-requires
-    same-length
-    same-length-2
-    same-length-3
+    (λ c κs. search needs)
+    (λ c. search needs)
+    (λ c. search needs)
+    (λ c. search needs)
     returns)

@@ -17,26 +17,14 @@ abbrev μ-loop : tie.MeasureT-loop
 within : (c : tie.After-shared-slice-known3 Inv-loop μ-loop) → c .before .name-of .result < length (c .before .before .before .before .loop .column)
 within c = naming-within _ _ _ _ (c .before .before .before .before .loop .inv) (c .before .before .before .before .before .before .before .fill-u64 .kept .0) (search needs) (c .before .before .before .before .before .before .before .before .before .before .before .pre) _ (c .before .name-of .ensures)
 
-fill-u64-requires : tie.Need-fill-u64-requires Inv-loop μ-loop
-fill-u64-requires c κs = search needs
+returns : tie.Need-returns Inv-loop μ-loop
+returns c = naming-done _ _ _ (c .before .loop .inv) (search needs) ∙ ap (named (c .before .before .before .before .before .before .before .before .args .names) (c .before .before .before .before .before .before .before .before .args .keys .now)) (c .before .before .before .before .fill-u64 .ensures)
+
+loop-again : tie.Need-loop-again Inv-loop μ-loop
+loop-again c = naming-step _ _ _ (c .before .before .before .before .loop .inv) (search needs) _ (c .before .name-of .ensures)
 
 loop-holds : tie.Need-loop-holds Inv-loop μ-loop
 loop-holds c = naming-start _ _ _
-
-mul-along : tie.Need-mul-along Inv-loop μ-loop
-mul-along c = search needs
-
-shared-slice-read-along : tie.Need-shared-slice-read-along Inv-loop μ-loop
-shared-slice-read-along c = search needs
-
-name-of-requires : tie.Need-name-of-requires Inv-loop μ-loop
-name-of-requires c κs = search needs
-
-mul-column : tie.Need-mul-column Inv-loop μ-loop
-mul-column c = search needs
-
-shared-slice-read-column : tie.Need-shared-slice-read-column Inv-loop μ-loop
-shared-slice-read-column c = search needs
 
 mul-column-2 : tie.Need-mul-column-2 Inv-loop μ-loop
 mul-column-2 c = let h = within c in search needs
@@ -44,20 +32,8 @@ mul-column-2 c = let h = within c in search needs
 slice-write-column : tie.Need-slice-write-column Inv-loop μ-loop
 slice-write-column c = within c
 
-add-i : tie.Need-add-i Inv-loop μ-loop
-add-i c = search needs
-
-loop-less : tie.Need-loop-less Inv-loop μ-loop
-loop-less c = search needs
-
-loop-again : tie.Need-loop-again Inv-loop μ-loop
-loop-again c = naming-step _ _ _ (c .before .before .before .before .loop .inv) (search needs) _ (c .before .name-of .ensures)
-
 same-length : tie.Need-same-length Inv-loop μ-loop
 same-length c = c .before .loop .inv .same ∙ c .before .before .before .before .fill-u64 .kept .0
-
-returns : tie.Need-returns Inv-loop μ-loop
-returns c = naming-done _ _ _ (c .before .loop .inv) (search needs) ∙ ap (named (c .before .before .before .before .before .before .before .before .args .names) (c .before .before .before .before .before .before .before .before .args .keys .now)) (c .before .before .before .before .fill-u64 .ensures)
 
 pub name-q-values-spec : {M : Type 1} → statement M
 name-q-values-spec =
@@ -65,17 +41,17 @@ name-q-values-spec =
     (tie.spec
     Inv-loop
     μ-loop
-    fill-u64-requires
+    (λ c κs. search needs)
     loop-holds
-    mul-along
-    shared-slice-read-along
-    name-of-requires
-    mul-column
-    shared-slice-read-column
+    (λ c. search needs)
+    (λ c. search needs)
+    (λ c κs. search needs)
+    (λ c. search needs)
+    (λ c. search needs)
     mul-column-2
     slice-write-column
-    add-i
-    loop-less
+    (λ c. search needs)
+    (λ c. search needs)
     loop-again
     same-length
     returns)

@@ -15,68 +15,15 @@ Inv-loop forward reverse forward-seen reverse-seen keys₀ rows₀ slot₀ slot-
 abbrev μ-loop : tie.MeasureT-loop
 μ-loop forward reverse forward-seen reverse-seen keys₀ rows₀ slot₀ slot-end keys rows slot = length forward - slot
 
-loop-holds : tie.Need-loop-holds Inv-loop μ-loop
-loop-holds c = packing-start _ _ (c .before .before .before .before .before .pre .keys-fit)
-
-cast-along : tie.Need-cast-along Inv-loop μ-loop
-cast-along c = search needs
-
-mul-along : tie.Need-mul-along Inv-loop μ-loop
-mul-along c = search needs
-
-mul-put : tie.Need-mul-put Inv-loop μ-loop
-mul-put c = search needs
-
-shared-slice-read-put : tie.Need-shared-slice-read-put Inv-loop μ-loop
-shared-slice-read-put c = search needs
-
-mul-key : tie.Need-mul-key Inv-loop μ-loop
-mul-key c = search needs
-
-shared-slice-read-key : tie.Need-shared-slice-read-key Inv-loop μ-loop
-shared-slice-read-key c = search needs
-
-key-requires : tie.Need-key-requires Inv-loop μ-loop
-key-requires c κs = search needs
-
-put-requires : tie.Need-put-requires Inv-loop μ-loop
-put-requires c κs = search needs
-
-mul-put-2 : tie.Need-mul-put-2 Inv-loop μ-loop
-mul-put-2 c = search needs
-
-shared-slice-read-put-2 : tie.Need-shared-slice-read-put-2 Inv-loop μ-loop
-shared-slice-read-put-2 c = search needs
-
-mul-key-2 : tie.Need-mul-key-2 Inv-loop μ-loop
-mul-key-2 c = search needs
-
-shared-slice-read-key-2 : tie.Need-shared-slice-read-key-2 Inv-loop μ-loop
-shared-slice-read-key-2 c = search needs
-
-add-key : tie.Need-add-key Inv-loop μ-loop
-add-key c = search needs
-
-key-requires-2 : tie.Need-key-requires-2 Inv-loop μ-loop
-key-requires-2 c κs = search needs
-
-put-requires-2 : tie.Need-put-requires-2 Inv-loop μ-loop
-put-requires-2 c κs = search needs
-
-add-slot : tie.Need-add-slot Inv-loop μ-loop
-add-slot c = search needs
-
-loop-less : tie.Need-loop-less Inv-loop μ-loop
-loop-less c = search needs
-
 loop-again : tie.Need-loop-again Inv-loop μ-loop
 loop-again c =
+    let one = c .before .before .before .before .before .before .before .put in
+    let two = c .before .before .put2 in
     packing-step _ (c .before .before .before .before .before .before .before .before .before .before .before .before .before .before .before .loop .inv) (search needs)
-    _ _ _ (c .before .before .before .before .before .before .before .before .before .before .key .ensures) (c .before .before .before .before .before .before .before .before .before .put .ensures .0) (c .before .before .before .before .before .before .before .before .before .put .ensures .1)
-    _ _ _ (c .before .before .before .key2 .ensures) (c .before .before .put2 .ensures .0) (c .before .before .put2 .ensures .1) (c .before .before .put2 .kept .0 ∙ c .before .before .before .before .before .before .before .before .before .put .kept .0)
+    _ _ _ (c .before .before .before .before .before .before .before .before .before .before .before .before .key .ensures) (one .ensures .0) (one .ensures .1) _ _ _ (c .before .before .before .before .before .before .before .before .before .before .key2 .ensures) (two .ensures .0) (two .ensures .1) (two .kept .0 ∙ one .kept .0)
 
-same-length : tie.Need-same-length Inv-loop μ-loop
-same-length c = search needs
+loop-holds : tie.Need-loop-holds Inv-loop μ-loop
+loop-holds c = packing-start _ _ (c .before .before .before .before .before .pre .keys-fit)
 
 returns : tie.Need-returns Inv-loop μ-loop
 returns c =
@@ -90,23 +37,23 @@ pack-spec =
     Inv-loop
     μ-loop
     loop-holds
-    cast-along
-    mul-along
-    mul-put
-    shared-slice-read-put
-    mul-key
-    shared-slice-read-key
-    key-requires
-    put-requires
-    mul-put-2
-    shared-slice-read-put-2
-    mul-key-2
-    shared-slice-read-key-2
-    add-key
-    key-requires-2
-    put-requires-2
-    add-slot
-    loop-less
+    (λ c. search needs)
+    (λ c. search needs)
+    (λ c. search needs)
+    (λ c. search needs)
+    (λ c κs. search needs)
+    (λ c. search needs)
+    (λ c. search needs)
+    (λ c. search needs)
+    (λ c κs. search needs)
+    (λ c. search needs)
+    (λ c. search needs)
+    (λ c κs. search needs)
+    (λ c. search needs)
+    (λ c. search needs)
+    (λ c κs. search needs)
+    (λ c. search needs)
+    (λ c. search needs)
     loop-again
-    same-length
+    (λ c. search needs)
     returns)

@@ -8,24 +8,12 @@ use borrow.Author.Needs.{needs}
 use Rattle.fdr.proofs.put.Statement.{statement}
 use Rattle.fdr.proofs.put.Tie as tie
 
-mul-keys : tie.Need-mul-keys
-mul-keys c = search needs
-
-slice-write-keys : tie.Need-slice-write-keys
-slice-write-keys c = search needs
-
-cast-result : tie.Need-cast-result
-cast-result c = search needs
-
 add-result : tie.Need-add-result
 add-result c = omega (arith, byte-most (not (eqb (c .args .mark) 0)), c .pre)
-
-same-length : tie.Need-same-length
-same-length c = search needs
 
 returns : tie.Need-returns
 returns c = (omega (arith, byte-most (not (eqb (c .args .mark) 0))), put-keeps (not (eqb (c .args .mark) 0)) (c .args .keys .now) (c .args .rows) (c .args .key) (c .pre))
 
 pub put-spec : {M : Type 1} → statement M
 put-spec =
-    tie.close (tie.spec mul-keys slice-write-keys cast-result add-result same-length returns)
+    tie.close (tie.spec (λ c. search needs) (λ c. search needs) (λ c. search needs) add-result (λ c. search needs) returns)

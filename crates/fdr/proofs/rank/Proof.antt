@@ -6,9 +6,6 @@ use borrow.Author.Needs.{needs}
 use Rattle.fdr.proofs.rank.Statement.{statement}
 use Rattle.fdr.proofs.rank.Tie as tie
 
-sort-requires : tie.Need-sort-requires
-sort-requires c κs = search needs
-
 write-ratios-requires : tie.Need-write-ratios-requires
 write-ratios-requires c κs = still-ratable _ _ (c .before .before .before .before .before .sort .ensures .0) (c .before .before .before .before .before .before .before .before .before .before .before .before .before .pre .1)
 
@@ -16,12 +13,6 @@ take-minima-requires : tie.Need-take-minima-requires
 take-minima-requires c κs =
     minima-asks (c .before .before .before .before .before .before .before .before .before .before .before .before .before .before .before .before .before .args .estimator) (c .before .before .before .before .before .before .before .before .before .before .before .before .before .before .before .before .before .args .bins .now) (tableOf (c .before .before .before .before .before .before .before .before .before .before .before .before .before .before .before .before .before .args .forward .now) (c .before .before .before .before .before .before .before .before .before .before .before .before .before .before .before .before .before .args .reverse .now) [] [])
     (c .before .before .before .before .before .before .before .before .before .sort .last .0) _ (c .before .before .before .write-ratios .ensures)
-
-same-length : tie.Need-same-length
-same-length c = search needs
-
-same-length-2 : tie.Need-same-length-2
-same-length-2 c = search needs
 
 returns : tie.Need-returns
 returns c =
@@ -33,9 +24,9 @@ pub rank-spec : {M : Type 1} → statement M
 rank-spec =
     tie.close
     (tie.spec
-    sort-requires
+    (λ c κs. search needs)
     write-ratios-requires
     take-minima-requires
-    same-length
-    same-length-2
+    (λ c. search needs)
+    (λ c. search needs)
     returns)

@@ -31,6 +31,13 @@ bits c = all-at Bits (c .before .before .before .args .column .now) (c .before .
 returns : tie.Need-returns
 returns c = rw (eq-eqb (c .before .before .args .slot) 4294967295 (c .if1 .taken))
 
+returns-2 : tie.Need-returns-2
+returns-2 c =
+    let s = c .before .before .before .before in
+    rw (part (c .before))
+    (ap (λ (n : ℕ). ofBits binary32 (getD (s .args .column .now) n 0))
+    (c .before .name-of .ensures ∙ ap (nameOf (s .args .names) (s .args .slot)) (label-test (s .args .label) (s .fits .label .sfits))))
+
 name-of-requires : tie.Need-name-of-requires
 name-of-requires c κs = c .before .before .fits .slot .fits
 
@@ -45,13 +52,6 @@ cast-result c = record { fits = bits (c .before) .small }
 
 float-from-bits-result : tie.Need-float-from-bits-result
 float-from-bits-result c = subst (λ (b : Bool). T (not b)) (sym (nanBits-is binary32 _)) (bits (c .before) .number)
-
-returns-2 : tie.Need-returns-2
-returns-2 c =
-    let s = c .before .before .before .before in
-    rw (part (c .before))
-    (ap (λ (n : ℕ). ofBits binary32 (getD (s .args .column .now) n 0))
-    (c .before .name-of .ensures ∙ ap (nameOf (s .args .names) (s .args .slot)) (label-test (s .args .label) (s .fits .label .sfits))))
 
 pub row-q-spec : {M : Type 1} → statement M
 row-q-spec =

@@ -11,9 +11,6 @@ use Rattle.fdr.proofs.tag.Tie as tie
 small : (c : tie.Start) → toBits binary32 (c .args .q) < 4294967296
 small c = bits-small (c .args .q) (passes _ (c .good .0 .1))
 
-float-to-bits-result : tie.Need-float-to-bits-result
-float-to-bits-result c = search needs
-
 cast-result : tie.Need-cast-result
 cast-result c = omega (arith, small c)
 
@@ -23,8 +20,5 @@ mul-result c = omega (arith, small c)
 add-result : tie.Need-add-result
 add-result c = omega (arith, small c, c .pre)
 
-returns : tie.Need-returns
-returns c = search needs
-
 pub tag-spec : {M : Type 1} → statement M
-tag-spec = tie.close (tie.spec float-to-bits-result cast-result mul-result add-result returns)
+tag-spec = tie.close (tie.spec (λ c. search needs) cast-result mul-result add-result (λ c. search needs))

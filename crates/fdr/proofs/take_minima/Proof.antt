@@ -20,23 +20,11 @@ Inv-loop keys₀ q-min₀ passing₀ i₀ keys q-min passing i = Minima keys₀ 
 abbrev μ-loop : tie.MeasureT-loop
 μ-loop keys₀ q-min₀ passing₀ i₀ keys q-min passing i = i
 
+loop-again : tie.Need-loop-again Inv-loop μ-loop
+loop-again c = minima-step _ _ (c .before .before .before .before .before .loop .inv) (search needs) _ _ _ (c .before .min-f32 .ensures) (sym one-in-100) (c .tag .ensures)
+
 loop-holds : tie.Need-loop-holds Inv-loop μ-loop
 loop-holds c = minima-start _
-
-sub-i : tie.Need-sub-i Inv-loop μ-loop
-sub-i c = search needs
-
-mul-along : tie.Need-mul-along Inv-loop μ-loop
-mul-along c = search needs
-
-slice-read-along : tie.Need-slice-read-along Inv-loop μ-loop
-slice-read-along c = search needs
-
-mul-min-f32 : tie.Need-mul-min-f32 Inv-loop μ-loop
-mul-min-f32 c = search needs
-
-slice-read-min-f32 : tie.Need-slice-read-min-f32 Inv-loop μ-loop
-slice-read-min-f32 c = search needs
 
 cast-min-f32 : tie.Need-cast-min-f32 Inv-loop μ-loop
 cast-min-f32 c = record { fits = minima-bits _ (c .before .before .before .loop .i - 1) (c .before .before .before .loop .inv) (search needs) (c .before .before .before .before .before .pre) .small }
@@ -45,35 +33,14 @@ float-from-bits-min-f32 : tie.Need-float-from-bits-min-f32 Inv-loop μ-loop
 float-from-bits-min-f32 c =
     subst (λ (b : Bool). T (not b)) (sym (nanBits-is binary32 _)) (minima-bits _ (c .before .before .before .loop .i - 1) (c .before .before .before .loop .inv) (search needs) (c .before .before .before .before .before .pre) .number)
 
-min-f32-requires : tie.Need-min-f32-requires Inv-loop μ-loop
-min-f32-requires c κs = search needs
-
 tag-requires : tie.Need-tag-requires Inv-loop μ-loop
 tag-requires c κs = (minima-number _ (c .before .before .before .before .loop .inv) _ _ (c .min-f32 .ensures), search needs)
-
-mul-keys : tie.Need-mul-keys Inv-loop μ-loop
-mul-keys c = search needs
-
-slice-write-keys : tie.Need-slice-write-keys Inv-loop μ-loop
-slice-write-keys c = search needs
-
-cast-passing : tie.Need-cast-passing Inv-loop μ-loop
-cast-passing c = search needs
 
 add-passing : tie.Need-add-passing Inv-loop μ-loop
 add-passing c =
     let low = le (c .before .min-f32 .result) (ofBits binary32 1008981770) in
     let target = eqb (getD (c .before .before .before .before .before .loop .keys) (c .before .before .before .before .before .loop .i - 1) 0 % 4294967296 % 2) 0 in
     omega (arith, c .before .before .before .before .before .loop .inv .few, byte-most (low && target))
-
-loop-less : tie.Need-loop-less Inv-loop μ-loop
-loop-less c = search needs
-
-loop-again : tie.Need-loop-again Inv-loop μ-loop
-loop-again c = minima-step _ _ (c .before .before .before .before .before .loop .inv) (search needs) _ _ _ (c .before .min-f32 .ensures) (sym one-in-100) (c .tag .ensures)
-
-same-length : tie.Need-same-length Inv-loop μ-loop
-same-length c = search needs
 
 returns : tie.Need-returns Inv-loop μ-loop
 returns c = minima-done _ (c .before .loop .inv) (search needs)
@@ -85,20 +52,20 @@ take-minima-spec =
     Inv-loop
     μ-loop
     loop-holds
-    sub-i
-    mul-along
-    slice-read-along
-    mul-min-f32
-    slice-read-min-f32
+    (λ c. search needs)
+    (λ c. search needs)
+    (λ c. search needs)
+    (λ c. search needs)
+    (λ c. search needs)
     cast-min-f32
     float-from-bits-min-f32
-    min-f32-requires
+    (λ c κs. search needs)
     tag-requires
-    mul-keys
-    slice-write-keys
-    cast-passing
+    (λ c. search needs)
+    (λ c. search needs)
+    (λ c. search needs)
     add-passing
-    loop-less
+    (λ c. search needs)
     loop-again
-    same-length
+    (λ c. search needs)
     returns)

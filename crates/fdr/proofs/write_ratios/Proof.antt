@@ -24,29 +24,18 @@ abbrev μ-loop : tie.MeasureT-loop
 loop-holds : tie.Need-loop-holds Inv-loop μ-loop
 loop-holds c = summing-start _ _ _ _
 
-mul-along : tie.Need-mul-along Inv-loop μ-loop
-mul-along c = search needs
-
-slice-read-along : tie.Need-slice-read-along Inv-loop μ-loop
-slice-read-along c = search needs
+loop-again : tie.Need-loop-again Inv-loop μ-loop
+loop-again c =
+    summing-step _ _ _ _ (c .before .before .before .before .before .before .before .before .before .loop .inv) (search needs) _ _ _ _ _ _
+    (c .before .before .before .before .before .before .score-of .ensures) (c .before .before .before .before .before .widen .ensures) (c .before .before .before .before .posterior-at .ensures) (c .before .before .before .narrow .ensures) (c .before .min-f32 .ensures) (c .tag .ensures)
 
 score-of-requires : tie.Need-score-of-requires Inv-loop μ-loop
-score-of-requires c κs = (summing-within _ _ _ _ _ (c .before .before .loop .inv) (search needs) (c .before .before .before .before .before .before .before .pre .within), c .before .before .before .before .before .before .before .pre .reverse-fit)
-
-widen-requires : tie.Need-widen-requires Inv-loop μ-loop
-widen-requires c κs = search needs
+score-of-requires c κs =
+    let s = c .before .before .before .before .before .before .before in
+    (summing-within _ _ _ _ _ (c .before .before .loop .inv) (search needs) (s .pre .within), s .pre .reverse-fit)
 
 posterior-at-requires : tie.Need-posterior-at-requires Inv-loop μ-loop
-posterior-at-requires c κs = (c .before .before .before .before .before .before .before .before .before .pre .some, c .before .before .before .before .before .before .before .before .before .pre .few)
-
-narrow-requires : tie.Need-narrow-requires Inv-loop μ-loop
-narrow-requires c κs = search needs
-
-cast-target : tie.Need-cast-target Inv-loop μ-loop
-cast-target c = search needs
-
-sub-target : tie.Need-sub-target Inv-loop μ-loop
-sub-target c = search needs
+posterior-at-requires c κs = let s = c .before .before .before .before .before .before .before .before .before in (s .pre .some, s .pre .few)
 
 add-target : tie.Need-add-target Inv-loop μ-loop
 add-target c =
@@ -55,35 +44,13 @@ add-target c =
 int-to-float-min-f32 : tie.Need-int-to-float-min-f32 Inv-loop μ-loop
 unfolding inFloat
 int-to-float-min-f32 c =
-    let n = c .before .before .before .before .before .before .before .loop .target + (1 - getD (c .before .before .before .before .before .before .before .loop .keys) (c .before .before .before .before .before .before .before .loop .i) 0 % 4294967296 % 2) in
-    let h : n ≤ 2 ^ 24 = omega (arith, summing-few _ _ _ _ (c .before .before .before .before .before .before .before .loop .inv) (search needs), c .before .before .before .before .before .before .before .before .before .before .before .before .pre .countable) in
+    let l = c .before .before .before .before .before .before .before .loop in
+    let n = l .target + (1 - getD (l .keys) (l .i) 0 % 4294967296 % 2) in
+    let h : n ≤ 2 ^ 24 = omega (arith, summing-few _ _ _ _ (l .inv) (search needs), c .before .before .before .before .before .before .before .before .before .before .before .before .pre .countable) in
     le→leb n (2 ^ 24) h
-
-min-f32-requires : tie.Need-min-f32-requires Inv-loop μ-loop
-min-f32-requires c κs = search needs
 
 tag-requires : tie.Need-tag-requires Inv-loop μ-loop
 tag-requires c κs = (subst (λ (x : Float). T (not (isNan x))) (sym (c .min-f32 .ensures)) (least-number one _ one-number), search needs)
-
-mul-keys : tie.Need-mul-keys Inv-loop μ-loop
-mul-keys c = search needs
-
-slice-write-keys : tie.Need-slice-write-keys Inv-loop μ-loop
-slice-write-keys c = search needs
-
-add-i : tie.Need-add-i Inv-loop μ-loop
-add-i c = search needs
-
-loop-less : tie.Need-loop-less Inv-loop μ-loop
-loop-less c = search needs
-
-loop-again : tie.Need-loop-again Inv-loop μ-loop
-loop-again c =
-    summing-step _ _ _ _ (c .before .before .before .before .before .before .before .before .before .loop .inv) (search needs) _ _ _ _ _ _
-    (c .before .before .before .before .before .before .score-of .ensures) (c .before .before .before .before .before .widen .ensures) (c .before .before .before .before .posterior-at .ensures) (c .before .before .before .narrow .ensures) (c .before .min-f32 .ensures) (c .tag .ensures)
-
-same-length : tie.Need-same-length Inv-loop μ-loop
-same-length c = search needs
 
 returns : tie.Need-returns Inv-loop μ-loop
 returns c = summing-done _ _ _ _ (c .before .loop .inv) (search needs)
@@ -95,22 +62,22 @@ write-ratios-spec =
     Inv-loop
     μ-loop
     loop-holds
-    mul-along
-    slice-read-along
+    (λ c. search needs)
+    (λ c. search needs)
     score-of-requires
-    widen-requires
+    (λ c κs. search needs)
     posterior-at-requires
-    narrow-requires
-    cast-target
-    sub-target
+    (λ c κs. search needs)
+    (λ c. search needs)
+    (λ c. search needs)
     add-target
     int-to-float-min-f32
-    min-f32-requires
+    (λ c κs. search needs)
     tag-requires
-    mul-keys
-    slice-write-keys
-    add-i
-    loop-less
+    (λ c. search needs)
+    (λ c. search needs)
+    (λ c. search needs)
+    (λ c. search needs)
     loop-again
-    same-length
+    (λ c. search needs)
     returns)

@@ -24,34 +24,10 @@ abbrev μ-loop : tie.MeasureT-loop
 loop-holds : tie.Need-loop-holds Inv-loop μ-loop
 loop-holds c = writing-start (c .before .before .before .pre .1 .1)
 
-mul-row-q : tie.Need-mul-row-q Inv-loop μ-loop
-mul-row-q c = search needs
-
-shared-slice-read-row-q : tie.Need-shared-slice-read-row-q Inv-loop μ-loop
-shared-slice-read-row-q c = search needs
-
-mul-row-q-2 : tie.Need-mul-row-q-2 Inv-loop μ-loop
-mul-row-q-2 c = search needs
-
-shared-slice-copy-out-row-q : tie.Need-shared-slice-copy-out-row-q Inv-loop μ-loop
-shared-slice-copy-out-row-q c = search needs
-
 row-q-requires : tie.Need-row-q-requires Inv-loop μ-loop
 row-q-requires c κs =
     let s = c .before .before .before .before .before .before .before in
     (s .pre .0 .0, all-at (λ n. eqb n 4294967295 ≡ false → n * 2 + 1 < length (s .args .column .now)) (s .args .slots .now) (s .pre .0 .1) (c .before .before .before .loop .i) (search needs))
-
-mul-q : tie.Need-mul-q Inv-loop μ-loop
-mul-q c = search needs
-
-slice-write-q : tie.Need-slice-write-q Inv-loop μ-loop
-slice-write-q c = search needs
-
-add-i : tie.Need-add-i Inv-loop μ-loop
-add-i c = search needs
-
-loop-less : tie.Need-loop-less Inv-loop μ-loop
-loop-less c = search needs
 
 loop-again : tie.Need-loop-again Inv-loop μ-loop
 loop-again c =
@@ -60,9 +36,6 @@ loop-again c =
     writing-step (c .before .before .before .before .loop .inv) (search needs)
     (c .row-q .ensures
     ∙ ap (rowOf (s .args .names) (s .args .column .now) (getD (s .args .slots .now) i 0)) (toZ-ofZ w32 (getD (s .args .labels .now) i (pos 0)) (search needs)))
-
-same-length : tie.Need-same-length Inv-loop μ-loop
-same-length c = search needs
 
 returns : tie.Need-returns Inv-loop μ-loop
 returns c = writing-done (c .before .loop .inv) (search needs)
@@ -74,15 +47,15 @@ write-rows-spec =
     Inv-loop
     μ-loop
     loop-holds
-    mul-row-q
-    shared-slice-read-row-q
-    mul-row-q-2
-    shared-slice-copy-out-row-q
+    (λ c. search needs)
+    (λ c. search needs)
+    (λ c. search needs)
+    (λ c. search needs)
     row-q-requires
-    mul-q
-    slice-write-q
-    add-i
-    loop-less
+    (λ c. search needs)
+    (λ c. search needs)
+    (λ c. search needs)
+    (λ c. search needs)
     loop-again
-    same-length
+    (λ c. search needs)
     returns)
