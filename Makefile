@@ -6,19 +6,31 @@ SHELL := /bin/bash
 # cargo reads compare/.cargo/config.toml only from there
 COMPARE := cd compare && cargo run --quiet --release --offline --
 
-.PHONY: help test lib compare bench prepare
+.PHONY: help test lib host run compare bench prepare
 help: ## this list
 	@grep -E '^[a-z]+:.*## ' $(MAKEFILE_LIST) | sed -E 's/^([a-z]+):.*## /\1\t/' | expand -t 12
 
-test: ## prove every crate from nothing, try every must-fail edit, run every program; ends in 'N passed, 0 failed'
+test: ## host's tests; then prove every crate from nothing, try every must-fail edit, run every program; ends in 'N passed, 0 failed'
 	@command -v rt >/dev/null || { echo "make: the Rattle toolchain's command rt is not on the PATH" >&2; exit 1; }
 	rt fmt --check
+	$(MAKE) --no-print-directory host
 	rt ci
 
 lib: ## target/staticlib/libvayemuku.a, to link with include/vayemuku.h
 	@command -v rt >/dev/null || { echo "make: the Rattle toolchain's command rt is not on the PATH" >&2; exit 1; }
 	rt staticlib vayemuku
 	@echo "target/staticlib/libvayemuku.a, declared by include/vayemuku.h"
+
+host: lib ## the tests and the documents of host/, and the C example of README.md
+	@command -v cargo >/dev/null || { echo "make: cargo is not on the PATH" >&2; exit 1; }
+	cd host && cargo test --quiet
+	cd host && RUSTDOCFLAGS='-D warnings' cargo doc --quiet --no-deps
+	host/readme-example
+
+run: lib ## two sample batches, made and rescored: one goes well, and one is refused
+	@command -v cargo >/dev/null || { echo "make: cargo is not on the PATH" >&2; exit 1; }
+	cd host && cargo build --quiet --release
+	@host/run-sample
 
 prepare: ## what compare and bench need: Debian's packaged crates, and sage's unchanged files, checked, under target/sage
 	@command -v cargo >/dev/null || { echo "make: cargo is not on the PATH" >&2; exit 1; }

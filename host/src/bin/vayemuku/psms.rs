@@ -1,0 +1,112 @@
+//! Reads the rows of sage's results table.
+
+use crate::cells::{number, Cell, Label};
+use crate::problem::Problem;
+use crate::progress::Progress;
+use crate::proteins::Decoys;
+use crate::table::Table;
+use vayemuku::Psm;
+
+/// The columns that are read.
+const COLUMNS: [&str; 24] = [
+    "rank",
+    "label",
+    "expmass",
+    "calcmass",
+    "charge",
+    "peptide_len",
+    "missed_cleavages",
+    "isotope_error",
+    "precursor_ppm",
+    "fragment_ppm",
+    "hyperscore",
+    "delta_next",
+    "delta_best",
+    "aligned_rt",
+    "delta_rt_model",
+    "ion_mobility",
+    "delta_mobility",
+    "matched_peaks",
+    "longest_b",
+    "longest_y",
+    "matched_intensity_pct",
+    "poisson",
+    "proteins",
+    "num_proteins",
+];
+
+/// The rows of a table, and what each row's protein competes under.
+pub struct Psms<'a> {
+    pub rows: Vec<Psm>,
+    pub keys: Vec<Option<&'a [u8]>>,
+}
+
+/// Reads all rows.
+pub fn read<'a>(table: &'a Table, decoys: &Decoys, progress: &mut Progress) -> Result<Psms<'a>, Problem> {
+    let mut places = [0; COLUMNS.len()];
+    for (place, name) in places.iter_mut().zip(COLUMNS) {
+        *place = table.column(name)?;
+    }
+    let count = table.rows();
+    let mut psms = Psms { rows: Vec::with_capacity(count), keys: Vec::with_capacity(count) };
+    let mut cells = Vec::new();
+    for row in 1..=count {
+        progress.tell("rows read", row, count);
+        table.cells(row, &mut cells)?;
+        let cells = Cells { cells: &cells, places: &places };
+        let (psm, key) = cells.psm(decoys).map_err(|why| table.problem(row, why))?;
+        psms.rows.push(psm);
+        psms.keys.push(key);
+    }
+    Ok(psms)
+}
+
+/// The cells of one row, and where the columns are that are read.
+struct Cells<'a, 'b> {
+    cells: &'b [&'a [u8]],
+    places: &'b [usize; COLUMNS.len()],
+}
+
+impl<'a> Cells<'a, '_> {
+    /// The cell of a column that is read.
+    fn cell(&self, column: &str) -> &'a [u8] {
+        let known = COLUMNS.iter().position(|name| *name == column);
+        self.cells[self.places[known.unwrap_or_else(|| unreachable!("{column} is among the columns"))]]
+    }
+
+    /// The number in a column.
+    fn number<T: Cell>(&self, column: &str) -> Result<T, String> {
+        number(column, self.cell(column))
+    }
+
+    /// The row, and what its protein competes under.
+    fn psm(&self, decoys: &Decoys) -> Result<(Psm, Option<&'a [u8]>), String> {
+        let Label(label) = self.number("label")?;
+        let psm = Psm {
+            label,
+            rank: self.number("rank")?,
+            expmass: self.number("expmass")?,
+            calcmass: self.number("calcmass")?,
+            charge: self.number("charge")?,
+            peptide_len: self.number::<u32>("peptide_len")? as usize,
+            missed_cleavages: self.number("missed_cleavages")?,
+            isotope_error: self.number("isotope_error")?,
+            precursor_ppm: self.number("precursor_ppm")?,
+            fragment_ppm: self.number("fragment_ppm")?,
+            hyperscore: self.number("hyperscore")?,
+            delta_next: self.number("delta_next")?,
+            delta_best: self.number("delta_best")?,
+            aligned_rt: self.number("aligned_rt")?,
+            delta_rt_model: self.number("delta_rt_model")?,
+            ion_mobility: self.number("ion_mobility")?,
+            delta_mobility: self.number("delta_mobility")?,
+            matched_peaks: self.number("matched_peaks")?,
+            longest_b: self.number("longest_b")?,
+            longest_y: self.number("longest_y")?,
+            matched_intensity_pct: self.number("matched_intensity_pct")?,
+            poisson: self.number("poisson")?,
+        };
+        let key = decoys.key(label, self.cell("proteins"), self.number("num_proteins")?)?;
+        Ok((psm, key))
+    }
+}

@@ -1,0 +1,102 @@
+//! The rescoring job.
+
+use crate::arguments::Rescore;
+use crate::date::today;
+use crate::draft::{refuse_existing, Draft};
+use crate::list::{Failure, List};
+use crate::problem::{say, Problem};
+use crate::progress::Progress;
+use crate::psms::{self, Psms};
+use crate::table::{place, Table};
+use vayemuku::features::FEATURE_NAMES;
+use vayemuku::kernel::Kernel;
+use vayemuku::rescoring::{rescore, Refused, Rescored};
+use vayemuku::{Densities, Line, Psm, Tolerance};
+
+/// Rescores a table and writes the list.
+pub fn run(job: &Rescore) -> Result<bool, Problem> {
+    refuse_existing(&job.output)?;
+    let mut progress = Progress::new(job.progress);
+    let table = Table::read(&job.input)?;
+    let psms = psms::read(&table, &job.decoys, &mut progress)?;
+    let mut draft = Draft::new(&job.output)?;
+    let answer = {
+        let mut densities = Watched { progress: &mut progress };
+        rescore(&psms.rows, &psms.keys, job.decoys.names(), job.tolerance, &mut densities)
+    };
+    let date = today()?;
+    let list = List { table: &table, rescored: answer.as_ref().ok(), date: &date, batch: &job.batch };
+    match list.write(draft.file(), &mut progress) {
+        Ok(()) => draft.finish()?,
+        Err(Failure::Write(why)) => return Err(draft.problem(why)),
+        Err(Failure::Problem(problem)) => return Err(problem),
+    }
+    progress.finish();
+    match answer {
+        Ok(rescored) => Ok(report(job, &psms, &rescored)),
+        Err(refused) => Err(refusal(job, &table, &psms, refused)),
+    }
+}
+
+/// Prints what came out; whether the line is right.
+fn report(job: &Rescore, psms: &Psms, rescored: &Rescored) -> bool {
+    let decoys = psms.rows.iter().filter(|row| row.label == -1).count();
+    let all = psms.rows.len();
+    let (right, word, counts) = match rescored.line {
+        Line::Right(counts) => (true, "Right", counts),
+        Line::Wrong(counts) => (false, "Wrong", counts),
+    };
+    say(format!("batch     {}", job.batch));
+    say(format!("rows      {all}: {} targets, {decoys} decoys", all - decoys));
+    say(format!("spectra   {} rows, decoys too, have a q-value of at most 0.01", rescored.spectra.count));
+    say(format!(
+        "line      {} at one in 100 is {word}: row {}, decoys plus one {}, targets {}",
+        rescored.spectra.count, counts.row, counts.decoys_plus_one, counts.targets
+    ));
+    say(format!(
+        "proteins  {} targets of {} pairs have a q-value of at most 0.01",
+        rescored.proteins.count, rescored.protein_slots
+    ));
+    say(format!("written   {}", job.output.display()));
+    right
+}
+
+/// That a call refused, which row may be the cause, and where the list is.
+fn refusal(job: &Rescore, table: &Table, psms: &Psms, refused: Refused) -> Problem {
+    let mut notes = Vec::new();
+    if let Some(why) = not_finite(&psms.rows, job.tolerance) {
+        notes.push(format!("{}: {why}", table.name()));
+    }
+    notes.push(format!("{}: written with every fresh column empty", job.output.display()));
+    Problem::Refused(format!("{}: {refused}", table.name()), notes)
+}
+
+/// The first row with a feature that is not finite, as score_psms looks for one after a fit that failed.
+fn not_finite(rows: &[Psm], tolerance: Tolerance) -> Option<String> {
+    rows.iter().enumerate().find_map(|(row, psm)| {
+        let error = psm.mass_error(tolerance);
+        if !error.is_finite() {
+            return Some(format!("{}: the mass error is {error}", place(row + 1)));
+        }
+        // the posterior error is not at hand, but it is finite where all mass errors are and differ
+        let features = psm.features(0.0);
+        let feature = features.iter().position(|feature| !feature.is_finite())?;
+        Some(format!("{}: {} is {}", place(row + 1), FEATURE_NAMES[feature], features[feature]))
+    })
+}
+
+/// Densities by sage's kernel that tell how far they are.
+struct Watched<'a> {
+    progress: &'a mut Progress,
+}
+
+impl Densities for Watched<'_> {
+    fn take(&mut self, what: &str, sample: &[f64], width: f64, places: &[f64]) -> Vec<f64> {
+        let kernel = Kernel::new(sample, width);
+        let density = |(bin, place): (usize, &f64)| {
+            self.progress.tell(what, bin + 1, places.len());
+            kernel.density(*place)
+        };
+        places.iter().enumerate().map(density).collect()
+    }
+}

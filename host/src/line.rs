@@ -1,0 +1,63 @@
+//! Module 7: whether a line of a list is right.
+
+use crate::declared::{vayemuku_check_line_100, vayemuku_check_line_20};
+use crate::Refusal;
+
+/// A rate that a line is drawn at.
+#[derive(Clone, Copy, Debug, PartialEq, Eq)]
+pub enum Rate {
+    /// 100 times (decoys plus one) is at most the targets.
+    OneIn100,
+    /// 20 times (decoys plus one) is at most the targets.
+    OneIn20,
+}
+
+/// A row, and what stands up to it, itself included.
+#[derive(Clone, Copy, Debug, PartialEq, Eq)]
+pub struct Counts {
+    /// The row, from 1; 0 is the line above all rows.
+    pub row: usize,
+    /// The decoys, plus one.
+    pub decoys_plus_one: usize,
+    /// The targets.
+    pub targets: usize,
+}
+
+/// The answer to a line.
+#[derive(Clone, Copy, Debug, PartialEq, Eq)]
+pub enum Line {
+    /// The line is right; the counts are its own.
+    Right(Counts),
+    /// The line is wrong; the counts are those of the last later row that qualifies or, if none does, its own.
+    Wrong(Counts),
+}
+
+/// Whether a line of a ranked list is right: it is 0 or its row qualifies, and no later row does.
+///
+/// Refuses with [`Refusal::TooLong`] and [`Refusal::PastTheEnd`].
+///
+/// ```
+/// use vayemuku::{check_line, Counts, Line, Rate};
+/// let mut labels = vec![1; 20];
+/// labels.push(-1);
+/// let counts = Counts { row: 20, decoys_plus_one: 1, targets: 20 };
+/// assert_eq!(check_line(Rate::OneIn20, &labels, 20), Ok(Line::Right(counts)));
+/// assert_eq!(check_line(Rate::OneIn20, &labels, 0), Ok(Line::Wrong(counts)));
+/// ```
+pub fn check_line(rate: Rate, labels: &[i32], line: usize) -> Result<Line, Refusal> {
+    let call = match rate {
+        Rate::OneIn100 => vayemuku_check_line_100,
+        Rate::OneIn20 => vayemuku_check_line_20,
+    };
+    let mut right = 0;
+    let (mut row, mut decoys_plus_one, mut targets) = (0, 0, 0);
+    let (column, length) = (labels.as_ptr(), labels.len());
+    // SAFETY: the length is that of the column.
+    let number = unsafe { call(column, length, line, &mut right, &mut row, &mut decoys_plus_one, &mut targets) };
+    Refusal::from_call(number)?;
+    let counts = Counts { row, decoys_plus_one, targets };
+    Ok(match right {
+        1 => Line::Right(counts),
+        _ => Line::Wrong(counts),
+    })
+}

@@ -1,0 +1,88 @@
+//! Why a call refuses.
+
+use std::fmt::{Display, Formatter};
+
+/// Why a call refuses: the questions that are asked of each call, by their numbers.
+///
+/// A call asks only what its inputs have, in the order of the numbers (4 is asked before 3), and the first question that is
+/// not met is the one returned.
+///
+/// ```
+/// use vayemuku::Refusal;
+/// assert_eq!(Refusal::OneClass.number(), 6);
+/// assert_eq!(Refusal::OneClass.to_string(), "the fit needs at least one decoy and one target");
+/// ```
+#[derive(Clone, Copy, Debug, PartialEq, Eq, Hash, PartialOrd, Ord)]
+#[repr(u32)]
+pub enum Refusal {
+    /// 1: a list is longer than 16,777,215.
+    TooLong = 1,
+    /// 2: a column does not have the length stated.
+    WrongLength = 2,
+    /// 3: the size of a system is not 1 to 20, or the number of bins not 1 to 65,536.
+    OutOfRange = 3,
+    /// 4: the tolerance is neither ppm nor Da.
+    NoTolerance = 4,
+    /// 5: a slot is neither below the number of slots nor the mark of a row that takes no part.
+    NoSuchSlot = 5,
+    /// 6: there is no decoy, or no target, to fit.
+    OneClass = 6,
+    /// 7: no eps solves the system.
+    Unsolved = 7,
+    /// 8: a coefficient is not finite.
+    NotFinite = 8,
+    /// 9: the line is past the list's end.
+    PastTheEnd = 9,
+}
+
+impl Refusal {
+    /// Every refusal, in the order of the numbers.
+    pub const ALL: [Refusal; 9] = [
+        Refusal::TooLong,
+        Refusal::WrongLength,
+        Refusal::OutOfRange,
+        Refusal::NoTolerance,
+        Refusal::NoSuchSlot,
+        Refusal::OneClass,
+        Refusal::Unsolved,
+        Refusal::NotFinite,
+        Refusal::PastTheEnd,
+    ];
+
+    /// The question's number, from 1 to 9.
+    pub fn number(self) -> u32 {
+        self as u32
+    }
+
+    /// The sentence that says why.
+    pub fn sentence(self) -> &'static str {
+        match self {
+            Refusal::TooLong => "a list has more than 16,777,215 entries",
+            Refusal::WrongLength => "a column does not have the length that the others call for",
+            Refusal::OutOfRange => "the size is not 1 to 20, or the number of bins is not 1 to 65,536",
+            Refusal::NoTolerance => "the tolerance is neither ppm nor Da",
+            Refusal::NoSuchSlot => "a slot is past the table's end",
+            Refusal::OneClass => "the fit needs at least one decoy and one target",
+            Refusal::Unsolved => "no solution of the fit's equations was found",
+            Refusal::NotFinite => "a coefficient of the fit is not finite",
+            Refusal::PastTheEnd => "the line is past the end of the list",
+        }
+    }
+
+    /// Ok where a call returned 0, and otherwise the refusal of the number returned.
+    pub(crate) fn from_call(number: u32) -> Result<(), Refusal> {
+        if number == 0 {
+            return Ok(());
+        }
+        let known = Self::ALL.into_iter().find(|refusal| refusal.number() == number);
+        Err(known.unwrap_or_else(|| unreachable!("libvayemuku.a returned {number}, and its calls return 0 to 9")))
+    }
+}
+
+impl Display for Refusal {
+    fn fmt(&self, to: &mut Formatter<'_>) -> std::fmt::Result {
+        to.write_str(self.sentence())
+    }
+}
+
+impl std::error::Error for Refusal {}

@@ -1,0 +1,94 @@
+//! Lists of 16,777,215 rows, the most, and of one more. They come through a pipe: no file is written.
+
+mod common;
+
+use common::{program, Folder, Ran};
+use std::io::Write;
+use std::process::Stdio;
+
+/// The most rows.
+const MOST: usize = 16_777_215;
+
+/// The columns that rescore reads.
+const READ: [&str; 24] = [
+    "rank",
+    "charge",
+    "hyperscore",
+    "delta_next",
+    "delta_best",
+    "precursor_ppm",
+    "expmass",
+    "calcmass",
+    "isotope_error",
+    "fragment_ppm",
+    "poisson",
+    "matched_intensity_pct",
+    "matched_peaks",
+    "longest_b",
+    "longest_y",
+    "peptide_len",
+    "missed_cleavages",
+    "aligned_rt",
+    "ion_mobility",
+    "delta_rt_model",
+    "delta_mobility",
+    "label",
+    "proteins",
+    "num_proteins",
+];
+
+/// Runs the program with a table on its standard input: a header, a first row, and rows that are all alike.
+fn run(words: &[&str], header: &str, first: &str, row: &str, rows: usize) -> Ran {
+    let mut command = program();
+    let piped = command.args(words).stdin(Stdio::piped()).stdout(Stdio::piped()).stderr(Stdio::piped());
+    let mut child = piped.spawn().unwrap();
+    let mut to = child.stdin.take().unwrap();
+    const BLOCK: usize = 1 << 16;
+    let block = format!("{row}\n").repeat(BLOCK);
+    let line = row.len() + 1;
+    writeln!(to, "{header}\n{first}").unwrap();
+    let mut left = rows - 1;
+    while left > 0 {
+        let some = left.min(BLOCK);
+        to.write_all(&block.as_bytes()[..some * line]).unwrap();
+        left -= some;
+    }
+    drop(to);
+    Ran::of(child.wait_with_output().unwrap())
+}
+
+#[test]
+fn check() {
+    let words = |line| ["check", "/dev/stdin", "--line", line];
+    let header = "label\tsage_discriminant_score\tspectrum_q";
+    let over = run(&words("1"), header, "1\t1\t1", "1\t1\t1", MOST + 1);
+    over.failed(3, "/dev/stdin: row 16777216 (line 16777217): a list has at most 16,777,215 rows");
+    // targets alone: every row qualifies, so that the line is after the last, and every q-value is one over the targets
+    let most = run(&words("16777215"), header, "1\t1\t1", "1\t1\t1", MOST);
+    assert_eq!((most.status, most.stderr.as_str()), (Some(1), ""));
+    assert_eq!(
+        most.stdout,
+        "list      /dev/stdin: 16777215 rows, which stand as ranked\n\
+         line      16777215 at one in 100 is Right: row 16777215, decoys plus one 1, targets 16777215\n\
+         q-values  16777215 of 16777215 are not what the counting rule gives, the first as ranked in row 1 (line 2): 1.0, \
+         and it gives 5.960465e-8\n"
+    );
+}
+
+#[test]
+fn rescore() {
+    let folder = Folder::new("long-rescore");
+    let header = READ.join("\t");
+    let row = ["1"; READ.len()].join("\t");
+    let out = format!("{}/long-rescore.tsv", env!("CARGO_TARGET_TMPDIR"));
+    let words = ["rescore", "/dev/stdin", &out];
+    let over = run(&words, &header, &row, &row, MOST + 1);
+    over.failed(3, "/dev/stdin: row 16777216 (line 16777217): a list has at most 16,777,215 rows");
+    // one row less, and what is wrong with the first row is told
+    let first = row.replacen('1', "x", 1);
+    let most = run(&words, &header, &first, &row, MOST);
+    let why = "column rank: 'x' is no whole number from 0 to 4,294,967,295";
+    most.failed(3, &format!("/dev/stdin: row 1 (line 2): {why}"));
+    assert!(!std::path::Path::new(&out).exists());
+    assert!(folder.files().is_empty());
+}
