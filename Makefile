@@ -42,6 +42,9 @@ compare: lib prepare ## the port beside sage's unchanged Rust and Rust's own ope
 	$(COMPARE) counting
 	$(COMPARE) fit
 	$(COMPARE) kde
+	cd host && cargo build --quiet --release
+	host/run-sample >/dev/null
+	$(COMPARE) sample ../target/sample/{good,good.list,refused}.tsv
 
 bench: lib prepare ## the port and the Rust timed in one driver, with ratios
 	$(COMPARE) bench floats

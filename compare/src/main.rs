@@ -9,6 +9,7 @@ mod kde;
 mod lists;
 mod report;
 mod sage;
+mod sample;
 mod smoke;
 mod vayemuku;
 
@@ -19,6 +20,7 @@ const USAGE: &str = "usage: compare smoke
        compare counting [--lists N]
        compare fit [--systems N] [--fits N]
        compare kde [--builds N]
+       compare sample TABLE LIST REFUSED
        compare bench floats
        compare bench counting
        compare bench fit
@@ -40,6 +42,7 @@ fn run(words: &[&str]) -> Option<bool> {
         ["fit", options @ ..] => Some(fit::run(&fit::Plan::from_words(options)?)),
         ["kde"] => Some(kde::run(BUILDS)),
         ["kde", "--builds", builds] => Some(kde::run(builds.parse().ok()?)),
+        ["sample", table, list, refused] => Some(sample::run(table, list, refused)),
         ["bench", "counting"] => Some(bench::counting::run()),
         ["bench", "fit"] => Some(bench::fit::run()),
         ["bench", "floats"] => Some(bench::floats::run()),

@@ -39,7 +39,7 @@ fn batch(path: &Path, seed: u64, count: usize, broken: usize) -> std::io::Result
 /// Writes both batches into a folder.
 fn write(folder: &Path) -> std::io::Result<()> {
     std::fs::create_dir_all(folder)?;
-    batch(&folder.join("good.tsv"), 1, GOOD, 0)?;
+    batch(&folder.join("good.tsv"), 3, GOOD, 0)?;
     batch(&folder.join("refused.tsv"), 2, REFUSED, BROKEN)
 }
 

@@ -1,0 +1,152 @@
+//! The sample's rows through sage's unchanged score_psms, spectrum_q_value and picked_protein, strung together as sage
+//! does, and through host's rescore with sage's densities; host's list of the rows beside host's rescore with its own; and
+//! the batch that both do not fit.
+
+mod sage;
+mod table;
+
+use crate::report::{expect, Answer, Tally};
+use host::kernel::Kernels;
+use host::rescoring::{rescore, Refused, Rescored};
+use host::{Densities, Names, Refusal, Tolerance};
+use sage::{Recorded, Strung};
+use table::{Cells, Row};
+
+/// The tolerance on both sides.
+const TOLERANCE: [f32; 2] = [-10.0, 10.0];
+
+/// The columns that are compared.
+struct Columns {
+    row: Tally,
+    score: Tally,
+    posterior_error: Tally,
+    spectrum_q: Tally,
+    protein_q: Tally,
+    counts: Tally,
+}
+
+/// One line of a list.
+#[derive(Clone, Copy)]
+struct Line {
+    row: usize,
+    score: f32,
+    posterior_error: f32,
+    spectrum_q: f32,
+    protein_q: f32,
+}
+
+/// Compares the table with sage, the list with the table, and the refused table with sage. True where nothing differs.
+pub fn run(table: &str, list: &str, refused: &str) -> bool {
+    let read =
+        || -> Result<[Cells; 3], String> { Ok([Cells::read(table)?, Cells::read(list)?, Cells::read(refused)?]) };
+    match read() {
+        Ok([table, list, refused]) => beside_sage(&table) & beside_list(&table, &list) & refused_by_both(&refused),
+        Err(fault) => {
+            eprintln!("compare: {fault}");
+            false
+        }
+    }
+}
+
+/// host's rescore of rows.
+fn rescored(rows: &[Row], densities: &mut dyn Densities) -> Result<Rescored, Refused> {
+    let psms: Vec<_> = rows.iter().map(Row::psm).collect();
+    let keys: Vec<_> = rows.iter().map(Row::key).collect();
+    let tolerance = Tolerance::Ppm(TOLERANCE[0], TOLERANCE[1]);
+    rescore(&psms, &keys, Names::Two, tolerance, densities)
+}
+
+/// host's lines.
+fn lines(rescored: &Rescored) -> impl Iterator<Item = Line> + '_ {
+    (0..rescored.order.len()).map(|place| Line {
+        row: rescored.order[place],
+        score: rescored.scores[place],
+        posterior_error: rescored.posterior_errors[place],
+        spectrum_q: rescored.spectra.q[place],
+        protein_q: rescored.proteins.q[place],
+    })
+}
+
+/// host with sage's densities beside sage.
+fn beside_sage(table: &Cells) -> bool {
+    let rows = table.rows();
+    let sage = Strung::run(&rows).expect("sage fits the sample");
+    let mut densities = Recorded::new(&sage.builds);
+    let port = rescored(&rows, &mut densities).expect("the port fits the sample");
+    let mut columns = Columns::new();
+    for (port, sage) in lines(&port).zip(sage.lines()) {
+        columns.count(&port, &sage);
+    }
+    columns.number("rows", port.order.len(), sage.features.len());
+    columns.number("spectra that pass", port.spectra.count, sage.spectra);
+    columns.number("proteins that pass", port.proteins.count, sage.proteins);
+    columns.number("samples of a density that differ", densities.differ, 0);
+    columns.number("densities", densities.taken, 6);
+    columns.number("sides of proteins with equal scores", sage.ties(&rows), 0);
+    println!("the sample beside sage, {} rows", rows.len());
+    columns.print()
+}
+
+/// The list that the program wrote beside host with its own densities.
+fn beside_list(table: &Cells, list: &Cells) -> bool {
+    let port = rescored(&table.rows(), &mut Kernels).expect("the port fits the sample");
+    let mut columns = Columns::new();
+    let written: Vec<Line> = list.lines();
+    for (port, written) in lines(&port).zip(&written) {
+        columns.count(&port, written);
+    }
+    columns.number("rows", port.order.len(), written.len());
+    println!("the program's list of the sample, {} rows", written.len());
+    columns.print()
+}
+
+/// The batch that sage's score_psms gives nothing for, and the port a refusal with 7.
+fn refused_by_both(table: &Cells) -> bool {
+    let rows = table.rows();
+    let mut tally = Tally::new("refused");
+    tally.count(Strung::run(&rows).is_none(), || "sage fits it".to_string());
+    let answer = rescored(&rows, &mut Kernels).err();
+    let wanted = Some(Refused { call: "vayemuku_train", refusal: Refusal::Unsolved });
+    tally.outcome(expect("answer", answer, wanted));
+    println!("the batch that is refused, {} rows", rows.len());
+    tally.print()
+}
+
+impl Columns {
+    /// Nothing counted yet.
+    fn new() -> Columns {
+        Columns {
+            row: Tally::new("row"),
+            score: Tally::new("score"),
+            posterior_error: Tally::new("posterior_error"),
+            spectrum_q: Tally::new("spectrum_q"),
+            protein_q: Tally::new("protein_q"),
+            counts: Tally::new("counts"),
+        }
+    }
+
+    /// Counts two lines at one place.
+    fn count(&mut self, port: &Line, wanted: &Line) {
+        let column = |tally: &mut Tally, got: f32, wanted: f32| {
+            let words = || format!("row {}: port {}, and it should be {}", port.row + 1, got.hex(), wanted.hex());
+            tally.count(got.same(wanted), words);
+        };
+        column(&mut self.score, port.score, wanted.score);
+        column(&mut self.posterior_error, port.posterior_error, wanted.posterior_error);
+        column(&mut self.spectrum_q, port.spectrum_q, wanted.spectrum_q);
+        column(&mut self.protein_q, port.protein_q, wanted.protein_q);
+        let words = || format!("port {}, and it should be {}", port.row + 1, wanted.row + 1);
+        self.row.count(port.row == wanted.row, words);
+    }
+
+    /// Counts a number.
+    fn number(&mut self, what: &str, port: usize, wanted: usize) {
+        self.counts.count(port == wanted, || format!("{what}: {port}, and it should be {wanted}"));
+    }
+
+    /// Prints all columns; true where nothing differs.
+    fn print(&self) -> bool {
+        let all = [&self.row, &self.score, &self.posterior_error, &self.spectrum_q, &self.protein_q, &self.counts];
+        all.iter().fold(true, |well, tally| tally.print() && well)
+    }
+}
