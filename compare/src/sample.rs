@@ -12,8 +12,9 @@ use host::{Densities, Names, Refusal, Tolerance};
 use sage::{Recorded, Strung};
 use table::{Cells, Row};
 
-/// The tolerance on both sides.
-const TOLERANCE: [f32; 2] = [-10.0, 10.0];
+/// The tolerances that the sample is compared under; the program's list is made under the first. Under these no two sides
+/// of proteins have equal scores: sage ranks those in the order of its map.
+const TOLERANCES: [Tolerance; 2] = [Tolerance::Ppm(-10.0, 10.0), Tolerance::Da(-700.0, 700.0)];
 
 /// The columns that are compared.
 struct Columns {
@@ -40,7 +41,10 @@ pub fn run(table: &str, list: &str, refused: &str) -> bool {
     let read =
         || -> Result<[Cells; 3], String> { Ok([Cells::read(table)?, Cells::read(list)?, Cells::read(refused)?]) };
     match read() {
-        Ok([table, list, refused]) => beside_sage(&table) & beside_list(&table, &list) & refused_by_both(&refused),
+        Ok([table, list, refused]) => {
+            let tables = TOLERANCES.map(|tolerance| beside_sage(&table, tolerance));
+            tables == [true; 2] && beside_list(&table, &list) && refused_by_both(&refused)
+        }
         Err(fault) => {
             eprintln!("compare: {fault}");
             false
@@ -49,10 +53,9 @@ pub fn run(table: &str, list: &str, refused: &str) -> bool {
 }
 
 /// host's rescore of rows.
-fn rescored(rows: &[Row], densities: &mut dyn Densities) -> Result<Rescored, Refused> {
+fn rescored(rows: &[Row], tolerance: Tolerance, densities: &mut dyn Densities) -> Result<Rescored, Refused> {
     let psms: Vec<_> = rows.iter().map(Row::psm).collect();
     let keys: Vec<_> = rows.iter().map(Row::key).collect();
-    let tolerance = Tolerance::Ppm(TOLERANCE[0], TOLERANCE[1]);
     rescore(&psms, &keys, Names::Two, tolerance, densities)
 }
 
@@ -68,11 +71,11 @@ fn lines(rescored: &Rescored) -> impl Iterator<Item = Line> + '_ {
 }
 
 /// host with sage's densities beside sage.
-fn beside_sage(table: &Cells) -> bool {
+fn beside_sage(table: &Cells, tolerance: Tolerance) -> bool {
     let rows = table.rows();
-    let sage = Strung::run(&rows).expect("sage fits the sample");
+    let sage = Strung::run(&rows, tolerance).expect("sage fits the sample");
     let mut densities = Recorded::new(&sage.builds);
-    let port = rescored(&rows, &mut densities).expect("the port fits the sample");
+    let port = rescored(&rows, tolerance, &mut densities).expect("the port fits the sample");
     let mut columns = Columns::new();
     for (port, sage) in lines(&port).zip(sage.lines()) {
         columns.count(&port, &sage);
@@ -83,13 +86,13 @@ fn beside_sage(table: &Cells) -> bool {
     columns.number("samples of a density that differ", densities.differ, 0);
     columns.number("densities", densities.taken, 6);
     columns.number("sides of proteins with equal scores", sage.ties(&rows), 0);
-    println!("the sample beside sage, {} rows", rows.len());
+    println!("the sample beside sage, {tolerance:?}, {} rows", rows.len());
     columns.print()
 }
 
 /// The list that the program wrote beside host with its own densities.
 fn beside_list(table: &Cells, list: &Cells) -> bool {
-    let port = rescored(&table.rows(), &mut Kernels).expect("the port fits the sample");
+    let port = rescored(&table.rows(), TOLERANCES[0], &mut Kernels).expect("the port fits the sample");
     let mut columns = Columns::new();
     let written: Vec<Line> = list.lines();
     for (port, written) in lines(&port).zip(&written) {
@@ -104,8 +107,8 @@ fn beside_list(table: &Cells, list: &Cells) -> bool {
 fn refused_by_both(table: &Cells) -> bool {
     let rows = table.rows();
     let mut tally = Tally::new("refused");
-    tally.count(Strung::run(&rows).is_none(), || "sage fits it".to_string());
-    let answer = rescored(&rows, &mut Kernels).err();
+    tally.count(Strung::run(&rows, TOLERANCES[0]).is_none(), || "sage fits it".to_string());
+    let answer = rescored(&rows, TOLERANCES[0], &mut Kernels).err();
     let wanted = Some(Refused { call: "vayemuku_train", refusal: Refusal::Unsolved });
     tally.outcome(expect("answer", answer, wanted));
     println!("the batch that is refused, {} rows", rows.len());

@@ -2,7 +2,7 @@
 
 mod common;
 
-use common::{Cells, Folder};
+use common::{Cells, Folder, Ran};
 
 /// The columns of numbers that rescore reads, and what a cell is that holds none.
 const NUMBERS: [(&str, &str); 23] = [
@@ -219,6 +219,25 @@ fn an_output_that_cannot_be_written() {
     let line = "in.tsv: it is there already, and no list is written over";
     folder.run("rescore in.tsv in.tsv").failed(3, line);
     assert_eq!(folder.files(), ["in.tsv", "out.tsv"]);
+}
+
+/// Rescores under a limit of the size of files, with shell words before; the list would be greater.
+fn rescored_under_a_limit(folder: &Folder, before: &str) -> Ran {
+    folder.write("in.tsv", folder.sample(600).text());
+    let words = format!("{before} ulimit -f 8; exec \"$0\" rescore in.tsv out.tsv");
+    folder.run_shell(&words)
+}
+
+#[test]
+fn an_output_that_does_not_become_whole() {
+    let folder = Folder::new("not-whole");
+    let ran = rescored_under_a_limit(&folder, "trap '' XFSZ;");
+    ran.failed(3, "out.tsv: File too large (os error 27)");
+    assert_eq!(folder.files(), ["in.tsv"]);
+    // a program that is killed cannot clean up, but what it leaves does not have the name
+    let ran = rescored_under_a_limit(&folder, "");
+    assert_eq!((ran.status, ran.stdout.as_str()), (None, ""));
+    assert!(!folder.files().contains(&"out.tsv".to_string()));
 }
 
 #[test]

@@ -1,7 +1,7 @@
 //! sage's unchanged functions over the sample, and the densities that they took.
 
 use super::table::{Row, TAG};
-use super::{Line, TOLERANCE};
+use super::Line;
 use host::Densities;
 use sage_core::database::IndexedDatabase;
 use sage_core::fdr::picked_protein;
@@ -27,10 +27,9 @@ pub struct Strung {
 
 impl Strung {
     /// Scores, ranks and judges rows, with decoys that sage generated; None where score_psms gives nothing.
-    pub fn run(rows: &[Row]) -> Option<Strung> {
+    pub fn run(rows: &[Row], tolerance: host::Tolerance) -> Option<Strung> {
         let mut features: Vec<Feature> = rows.iter().map(|row| row.feature.clone()).collect();
-        let tolerance = Tolerance::Ppm(TOLERANCE[0], TOLERANCE[1]);
-        let (scored, mut builds) = recording(|| score_psms(&mut features, tolerance));
+        let (scored, mut builds) = recording(|| score_psms(&mut features, of_sage(tolerance)));
         scored?;
         features.sort_by(|a, b| b.discriminant_score.total_cmp(&a.discriminant_score));
         let spectra = spectrum_q_value(&mut features);
@@ -62,6 +61,15 @@ impl Strung {
         let mut scores: Vec<f32> = best.into_values().collect();
         scores.sort_by(f32::total_cmp);
         scores.windows(2).filter(|pair| pair[0] == pair[1]).count()
+    }
+}
+
+/// The tolerance, as sage has it.
+fn of_sage(tolerance: host::Tolerance) -> Tolerance {
+    match tolerance {
+        host::Tolerance::Ppm(lo, hi) => Tolerance::Ppm(lo, hi),
+        host::Tolerance::Pct(lo, hi) => Tolerance::Pct(lo, hi),
+        host::Tolerance::Da(lo, hi) => Tolerance::Da(lo, hi),
     }
 }
 

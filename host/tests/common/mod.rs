@@ -79,6 +79,12 @@ impl Folder {
         Ran::of(program().current_dir(&self.0).args(words).output().unwrap())
     }
 
+    /// Runs the words of a shell in the folder; `$0` is the program.
+    pub fn run_shell(&self, words: &str) -> Ran {
+        let program = env!("CARGO_BIN_EXE_vayemuku");
+        Ran::of(Command::new("sh").current_dir(&self.0).args(["-c", words, program]).output().unwrap())
+    }
+
     /// Runs the generator in the folder, and gives its first table, cut after so many rows.
     pub fn sample(&self, rows: usize) -> Cells {
         let generator = Command::new(env!("CARGO_BIN_EXE_vayemuku-sample")).current_dir(&self.0).arg("sample").status();

@@ -1,7 +1,6 @@
 //! A file that appears under its name only when it is whole.
 
 use crate::problem::Problem;
-use std::ffi::OsString;
 use std::fs::File;
 use std::io::{BufWriter, Write};
 use std::path::{Path, PathBuf};
@@ -28,13 +27,7 @@ impl Draft {
     /// Starts a file that will have this path.
     pub fn new(path: &Path) -> Result<Draft, Problem> {
         let name = path.display().to_string();
-        let Some(last) = path.file_name() else {
-            return Err(Problem::with_file(&name, "it is no name of a file"));
-        };
-        let mut hidden = OsString::from(".");
-        hidden.push(last);
-        hidden.push(format!(".{}.part", std::process::id()));
-        let draft = path.with_file_name(hidden);
+        let draft = path.with_file_name(format!(".vayemuku-{}.part", std::process::id()));
         let file = File::create_new(&draft).map_err(|why| Problem::with_file(&name, why))?;
         Ok(Draft { file: BufWriter::new(file), draft, path: path.to_path_buf(), finished: false })
     }
