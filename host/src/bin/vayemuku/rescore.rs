@@ -71,14 +71,14 @@ fn refusal(job: &Rescore, table: &Table, psms: &Psms, refused: Refused) -> Probl
     Problem::Refused(format!("{}: {refused}", table.name()), notes)
 }
 
-/// The first row with a feature that is not finite, as score_psms looks for one after a fit that failed.
+/// The first row whose mass error or another feature is not finite, as score_psms looks for one after a fit that failed.
+/// The posterior error of the mass error is not looked at: one mass error that is not finite takes it from all rows.
 fn not_finite(rows: &[Psm], tolerance: Tolerance) -> Option<String> {
     rows.iter().enumerate().find_map(|(row, psm)| {
         let error = psm.mass_error(tolerance);
         if !error.is_finite() {
             return Some(format!("{}: the mass error is {error}", place(row + 1)));
         }
-        // the posterior error is not at hand, but it is finite where all mass errors are and differ
         let features = psm.features(0.0);
         let feature = features.iter().position(|feature| !feature.is_finite())?;
         Some(format!("{}: {} is {}", place(row + 1), FEATURE_NAMES[feature], features[feature]))
