@@ -122,13 +122,7 @@ impl Table {
     /// slots' sides with a q-value of at most 0.01.
     ///
     /// Refuses with [`Refusal::TooLong`], [`Refusal::WrongLength`], [`Refusal::OutOfRange`] or [`Refusal::NoSuchSlot`].
-    pub fn q_values(
-        &self,
-        names: Names,
-        errors: &Estimator,
-        slots: &[u32],
-        labels: &[i32],
-    ) -> Result<QValues, Refusal> {
+    pub fn q_values(&self, names: Names, fit: &Estimator, slots: &[u32], labels: &[i32]) -> Result<QValues, Refusal> {
         let mut keys = vec![0u64; 2 * self.slots()];
         let mut spare = vec![0u64; 2 * self.slots()];
         let mut q = vec![f32::NAN; slots.len()];
@@ -137,10 +131,10 @@ impl Table {
         let number = unsafe {
             call::vayemuku_assign_q_value(
                 (names == Names::Two).into(),
-                errors.least(),
-                errors.step(),
-                errors.bins().as_ptr(),
-                errors.bins().len(),
+                fit.least(),
+                fit.step(),
+                fit.bins().as_ptr(),
+                fit.bins().len(),
                 self.forward.as_ptr(),
                 self.forward.len(),
                 self.reverse.as_ptr(),
