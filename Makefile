@@ -43,6 +43,7 @@ compare: lib prepare ## the port beside sage's unchanged Rust and Rust's own ope
 	$(COMPARE) counting
 	$(COMPARE) fit
 	$(COMPARE) kde
+	$(COMPARE) fdr
 	cd host && cargo build --quiet --release
 	host/run-sample >/dev/null
 	$(COMPARE) sample ../target/sample/{good,good.list,refused}.tsv
@@ -52,3 +53,4 @@ bench: lib prepare ## the port and the Rust timed in one driver, with ratios
 	$(COMPARE) bench counting
 	$(COMPARE) bench fit
 	$(COMPARE) bench kde
+	$(COMPARE) bench fdr

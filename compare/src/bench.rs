@@ -1,6 +1,7 @@
 //! Times the port and the Rust on the same inputs.
 
 pub mod counting;
+pub mod fdr;
 pub mod fit;
 pub mod floats;
 pub mod kde;

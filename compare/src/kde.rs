@@ -1,13 +1,13 @@
 //! Module 4, the density estimator without its kernel: beside sage's unchanged Builder::build, posterior_error and
 //! score_psms, and beside lines of theirs that no call reaches alone, quoted in `kde/reading.rs`.
 
-mod builds;
+pub mod builds;
 pub mod draws;
 mod errors;
-mod lent;
+pub mod lent;
 mod logs;
 mod mixing;
-mod psms;
+pub mod psms;
 pub mod reading;
 mod refusals;
 mod tolerances;

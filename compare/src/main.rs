@@ -3,6 +3,7 @@
 mod bench;
 mod cases;
 mod counting;
+mod fdr;
 mod fit;
 mod floats;
 mod kde;
@@ -20,17 +21,22 @@ const USAGE: &str = "usage: compare smoke
        compare counting [--lists N]
        compare fit [--systems N] [--fits N]
        compare kde [--builds N]
+       compare fdr [--tables N]
        compare sample TABLE LIST REFUSED
        compare bench floats
        compare bench counting
        compare bench fit
-       compare bench kde";
+       compare bench kde
+       compare bench fdr";
 
 /// How many random lists `counting` compares where nothing else is said.
 const LISTS: u64 = 200_000;
 
 /// How many random builds and estimators `kde` compares where nothing else is said.
 const BUILDS: u64 = 30_000;
+
+/// How many random tables of either sort `fdr` compares where nothing else is said.
+const TABLES: u64 = 50_000;
 
 /// Runs the words of the command line; None where they mean nothing.
 fn run(words: &[&str]) -> Option<bool> {
@@ -42,8 +48,11 @@ fn run(words: &[&str]) -> Option<bool> {
         ["fit", options @ ..] => Some(fit::run(&fit::Plan::from_words(options)?)),
         ["kde"] => Some(kde::run(BUILDS)),
         ["kde", "--builds", builds] => Some(kde::run(builds.parse().ok()?)),
+        ["fdr"] => Some(fdr::run(TABLES)),
+        ["fdr", "--tables", tables] => Some(fdr::run(tables.parse().ok()?)),
         ["sample", table, list, refused] => Some(sample::run(table, list, refused)),
         ["bench", "counting"] => Some(bench::counting::run()),
+        ["bench", "fdr"] => Some(bench::fdr::run()),
         ["bench", "fit"] => Some(bench::fit::run()),
         ["bench", "floats"] => Some(bench::floats::run()),
         ["bench", "kde"] => Some(bench::kde::run()),

@@ -1,5 +1,6 @@
 //! The calls of libvayemuku.a, as include/vayemuku.h has them.
 
+pub mod fdr;
 pub mod fit;
 pub mod kde;
 

@@ -34,7 +34,7 @@ impl Case {
     }
 
     /// sage's density of decoys or targets at these scores.
-    fn density(&self, decoys: bool, at: &[f64]) -> Vec<f64> {
+    pub fn density(&self, decoys: bool, at: &[f64]) -> Vec<f64> {
         let of_class = self.scores.iter().zip(&self.labels).filter(|(_, label)| (**label == -1) == decoys);
         let sample: Vec<f64> = of_class.map(|(score, _)| *score).collect();
         let width = self.widths[usize::from(!decoys)];

@@ -106,7 +106,7 @@ fn rows(random: &mut Random) -> Vec<Feature> {
 }
 
 /// One row; every third is a decoy.
-fn row(random: &mut Random, place: usize, better: f64) -> Feature {
+pub fn row(random: &mut Random, place: usize, better: f64) -> Feature {
     let decoy = place % 3 == 1;
     let gain = if decoy { 0.0 } else { better };
     let mut any = |high: f64| between(random, 0.0, high);
