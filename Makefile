@@ -6,7 +6,7 @@ SHELL := /bin/bash
 # cargo reads compare/.cargo/config.toml only from there
 COMPARE := cd compare && cargo run --quiet --release --offline --
 
-.PHONY: help test lib host run compare bench prepare
+.PHONY: help test lib host run compare record bench prepare
 help: ## this list
 	@grep -E '^[a-z]+:.*## ' $(MAKEFILE_LIST) | sed -E 's/^([a-z]+):.*## /\1\t/' | expand -t 12
 
@@ -47,6 +47,9 @@ compare: lib prepare ## the port beside sage's unchanged Rust and Rust's own ope
 	cd host && cargo build --quiet --release
 	host/run-sample >/dev/null
 	$(COMPARE) sample ../target/sample/{good,good.list,refused}.tsv
+
+record: lib prepare ## answers of sage's unchanged Rust that the programs replay_* read, made again: crates/replay_*/data
+	$(COMPARE) record ../crates
 
 bench: lib prepare ## the port and the Rust timed in one driver, with ratios
 	$(COMPARE) bench floats

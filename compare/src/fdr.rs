@@ -2,7 +2,7 @@
 //! of document 01.
 
 mod beside_sage;
-mod draws;
+pub mod draws;
 mod host;
 mod lent;
 mod longest;

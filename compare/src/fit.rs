@@ -1,10 +1,10 @@
 //! Modules 2 and 3, beside sage's unchanged Gauss::solve, and LinearDiscriminantAnalysis's train and score.
 
-mod rows;
+pub mod rows;
 mod score;
 mod solve;
 pub mod systems;
-mod train;
+pub mod train;
 
 use crate::cases::Random;
 use crate::lists::{label, LONGEST};

@@ -8,6 +8,7 @@ mod fit;
 mod floats;
 mod kde;
 mod lists;
+mod record;
 mod report;
 mod sage;
 mod sample;
@@ -23,6 +24,7 @@ const USAGE: &str = "usage: compare smoke
        compare kde [--builds N]
        compare fdr [--tables N]
        compare sample TABLE LIST REFUSED
+       compare record CRATES
        compare bench floats
        compare bench counting
        compare bench fit
@@ -51,6 +53,7 @@ fn run(words: &[&str]) -> Option<bool> {
         ["fdr"] => Some(fdr::run(TABLES)),
         ["fdr", "--tables", tables] => Some(fdr::run(tables.parse().ok()?)),
         ["sample", table, list, refused] => Some(sample::run(table, list, refused)),
+        ["record", crates] => Some(record::run(crates)),
         ["bench", "counting"] => Some(bench::counting::run()),
         ["bench", "fdr"] => Some(bench::fdr::run()),
         ["bench", "fit"] => Some(bench::fit::run()),

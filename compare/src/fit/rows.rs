@@ -5,12 +5,9 @@ use crate::cases::{partner, random_float, Random};
 use crate::lists::label;
 use crate::vayemuku::fit::{Row, WIDTH};
 
-/// The longest random list.
-const LONGEST: u64 = 300;
-
-/// Random labels: of one class, of one class but for one row, or of both at a random rate.
-fn labels(random: &mut Random) -> Vec<i32> {
-    let most = 1 + random.below(LONGEST);
+/// Random labels of up to `longest` rows: of one class, of one class but for one row, or of both at a random rate.
+fn labels(random: &mut Random, longest: u64) -> Vec<i32> {
+    let most = 1 + random.below(longest);
     let length = 1 + random.below(most) as usize;
     let rate = [0, 256, random.below(257), random.below(257)][random.below(4) as usize];
     let mut labels: Vec<i32> = (0..length).map(|place| label(random.below(256) < rate, place)).collect();
@@ -21,9 +18,9 @@ fn labels(random: &mut Random) -> Vec<i32> {
     labels
 }
 
-/// A random list of rows with labels.
-pub fn random_list(random: &mut Random) -> (Vec<Row>, Vec<i32>) {
-    let labels = labels(random);
+/// A random list of up to `longest` rows with labels.
+pub fn random_list(random: &mut Random, longest: u64) -> (Vec<Row>, Vec<i32>) {
+    let labels = labels(random, longest);
     let mut rows = vec![[0.0; WIDTH]; labels.len()];
     let kinds = pick(random, &[6, 9, 9, 11]);
     for column in 0..WIDTH {

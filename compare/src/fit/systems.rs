@@ -185,6 +185,11 @@ impl Systems {
     /// A random system of a random size.
     pub fn next(&mut self) -> System {
         let size = 1 + self.random.below(WIDTH as u64) as usize;
+        self.of_size(size)
+    }
+
+    /// A random system of this size.
+    pub fn of_size(&mut self, size: usize) -> System {
         let mut system = System::new(&mut self.random, size);
         let kind = self.random.below(10);
         self.fill(&mut system, kind);

@@ -7,6 +7,9 @@ use crate::report::{expect, expect_all, expect_column, Tally};
 use crate::vayemuku::fit::{train, Row, WIDTH};
 use sage_core::ml::linear_discriminant::LinearDiscriminantAnalysis;
 
+/// The longest random list.
+const LONGEST_RANDOM: u64 = 300;
+
 /// The tally, and how often a fit was accepted, refused with 6 and refused with 7.
 pub struct Fits {
     tally: Tally,
@@ -23,7 +26,7 @@ impl Fits {
     pub fn random(&mut self, fits: u64) {
         let mut random = Random::new(12);
         for _ in 0..fits {
-            let (rows, labels) = random_list(&mut random);
+            let (rows, labels) = random_list(&mut random, LONGEST_RANDOM);
             self.check(&rows, &labels);
         }
     }
@@ -121,7 +124,7 @@ impl Fits {
 }
 
 /// sage's coefficients with 0, or twenty NaN with 6 where a class is absent and else 7: sage does not say which.
-fn fit_of_sage(rows: &[Row], labels: &[i32]) -> (u32, Vec<f64>) {
+pub fn fit_of_sage(rows: &[Row], labels: &[i32]) -> (u32, Vec<f64>) {
     let decoys: Vec<bool> = labels.iter().map(|label| *label == -1).collect();
     match LinearDiscriminantAnalysis::train(rows, &decoys, |row| *row) {
         Some(fit) => (0, fit.coefficients().to_vec()),

@@ -25,7 +25,7 @@ pub struct Case {
 
 impl Case {
     /// sage's estimator. Its builder asks for the bandwidth of decoys, then for that of targets.
-    fn sage(&self) -> Parts {
+    pub fn sage(&self) -> Parts {
         let (widths, turn) = (self.widths, Cell::new(0));
         let decoys: Vec<bool> = self.labels.iter().map(|label| *label == -1).collect();
         let builder = Builder::default().monotonic(self.monotonic).bins(self.bins);

@@ -1,0 +1,59 @@
+//! Answers of Gauss::solve.
+
+use super::file::{describe, Recording};
+use crate::fit::systems::{System, Systems};
+use crate::vayemuku::fit::WIDTH;
+use sage_core::ml::gauss::Gauss;
+use sage_core::ml::matrix::Matrix;
+use std::io::Result;
+use std::path::Path;
+
+/// One system in so many of those that `each_small` gives of sizes 2 and 3 is recorded, and every one of size 1.
+const STEPS: [usize; 4] = [1, 1, 787, 3_907];
+
+/// So many numbers as random systems of each size, divided by the size.
+const OF_EACH_SIZE: usize = 160;
+
+/// The layout.
+const FILES: &str = "`solve`, Gauss::solve: the size as u32, the left side row after row, size * size * f64, the right side, size * f64,
+0 as u32 and the answer, size * f64, or only 7 as u32 where no eps solves the system. The systems: every one of size 1 with
+entries of a list of boundaries, some of sizes 2 and 3, and random ones of sizes 1 to 20.
+";
+
+/// Records small systems with boundaries as entries, and random systems of every size.
+pub fn record(folder: &Path) -> Result<()> {
+    let mut recording = Recording::default();
+    let mut maker = Systems::new(31);
+    let mut turns = [0; 4];
+    maker.each_small(|system| {
+        let turn = &mut turns[system.size];
+        if *turn % STEPS[system.size] == 0 {
+            add(&mut recording, system);
+        }
+        *turn += 1;
+    });
+    for size in 1..=WIDTH {
+        for _ in 0..OF_EACH_SIZE / size {
+            add(&mut recording, &maker.of_size(size));
+        }
+    }
+    recording.save(folder, "solve")?;
+    describe(folder, FILES)
+}
+
+/// Records one system.
+fn add(recording: &mut Recording, system: &System) {
+    let size = system.size;
+    recording.case();
+    recording.length(size);
+    system.left[..size].iter().for_each(|row| recording.floats(&row[..size]));
+    recording.floats(&system.right[..size]);
+    let (left, right) = system.matrices();
+    match Gauss::solve(left, right).map(Matrix::take) {
+        Some(answer) => {
+            recording.length(0);
+            recording.floats(&answer);
+        }
+        None => recording.length(7),
+    }
+}

@@ -1,0 +1,26 @@
+-- `replay::all_f64` is safe and ends. Assumes nothing.
+use Prim.Native.Nat.{_-_}
+use borrow.Author.Needs.{needs}
+use Rattle.replay.proofs.all_f64.Statement.{statement}
+use Rattle.replay.proofs.all_f64.Tie as tie
+
+abbrev Inv-loop : tie.InvT-loop
+Inv-loop column bits same₀ i₀ i-end same i = Unit {0}
+
+abbrev μ-loop : tie.MeasureT-loop
+μ-loop column bits same₀ i₀ i-end same i = i-end - i
+
+pub all-f64-spec : {M : Type 1} → statement M
+all-f64-spec =
+    tie.close
+    (tie.spec
+    Inv-loop
+    μ-loop
+    (λ c. search needs)
+    (λ c. search needs)
+    (λ c. search needs)
+    (λ c κs. search needs)
+    (λ c. search needs)
+    (λ c. search needs)
+    (λ c. search needs)
+    (λ c. search needs))

@@ -1,0 +1,358 @@
+// Replays recorded answers of the Rust's picked_protein and picked_protein_group. data/README.md has the layout.
+use fdr::Names;
+use kde::Estimator;
+
+fn names_of(number: u32) -> Names {
+    if number == 2 {
+        return Names::Two;
+    }
+    Names::One
+}
+
+// Whether the calls accept a table of the lent columns with these rows.
+fn accepted(
+    slots: &[u32],
+    labels: &[i32],
+    scores: &[f32],
+    forward: &mut [f32],
+    reverse: &mut [f32],
+    forward_seen: &mut [u32],
+    reverse_seen: &mut [u32],
+) -> bool {
+    let fresh = competition::fresh_table(forward, reverse, forward_seen, reverse_seen);
+    let added = competition::add_rows(
+        slots,
+        labels,
+        scores,
+        forward,
+        reverse,
+        forward_seen,
+        reverse_seen,
+    );
+    (columns::outcome_number(fresh) == 0) & (columns::outcome_number(added) == 0)
+}
+
+// Whether the q-values and the count are the recorded ones, and the working columns hold 0.
+fn same_q_values(
+    fd: i32,
+    names: Names,
+    estimator: Estimator,
+    bins: &[f64],
+    forward: &[f32],
+    reverse: &[f32],
+    forward_seen: &[u32],
+    reverse_seen: &[u32],
+    slots: &[u32],
+    labels: &[i32],
+    keys: &mut [u64],
+    spare: &mut [u64],
+    q: &mut [f32],
+) -> bool {
+    let answer = fdr::assign_q_value(
+        names,
+        estimator,
+        bins,
+        forward,
+        reverse,
+        forward_seen,
+        reverse_seen,
+        slots,
+        labels,
+        keys,
+        spare,
+        q,
+    );
+    let same = replay::same_f32s(fd, q);
+    let counted = replay::same_count(fd, answer);
+    same & counted & replay::all_cleared(keys) & replay::all_cleared(spare)
+}
+
+// Lends the working and result columns for up to 210 slots and 240 rows.
+fn same_table(
+    fd: i32,
+    names: Names,
+    estimator: Estimator,
+    bins: &[f64],
+    forward: &[f32],
+    reverse: &[f32],
+    forward_seen: &[u32],
+    reverse_seen: &[u32],
+    slots: &[u32],
+    labels: &[i32],
+) -> bool {
+    let mut keys = [7u64; 420];
+    let mut spare = [7u64; 420];
+    let mut q = [0.025f32; 240];
+    same_parts(
+        fd,
+        names,
+        estimator,
+        bins,
+        forward,
+        reverse,
+        forward_seen,
+        reverse_seen,
+        slots,
+        labels,
+        &mut keys,
+        &mut spare,
+        &mut q,
+    )
+}
+
+fn same_parts(
+    fd: i32,
+    names: Names,
+    estimator: Estimator,
+    bins: &[f64],
+    forward: &[f32],
+    reverse: &[f32],
+    forward_seen: &[u32],
+    reverse_seen: &[u32],
+    slots: &[u32],
+    labels: &[i32],
+    keys: &mut [u64],
+    spare: &mut [u64],
+    q: &mut [f32],
+) -> bool {
+    let rows = slots.len();
+    let count = forward.len();
+    if count > 210 {
+        return false;
+    }
+    let sides = count * 2;
+    if sides > keys.len() {
+        return false;
+    }
+    if sides > spare.len() {
+        return false;
+    }
+    if rows > q.len() {
+        return false;
+    }
+    same_q_values(
+        fd,
+        names,
+        estimator,
+        bins,
+        forward,
+        reverse,
+        forward_seen,
+        reverse_seen,
+        slots,
+        labels,
+        &mut keys[..sides],
+        &mut spare[..sides],
+        &mut q[..rows],
+    )
+}
+
+// Fills the lent table with the rows, and holds the answers against the recorded ones.
+fn same_filled(
+    fd: i32,
+    names: Names,
+    estimator: Estimator,
+    bins: &[f64],
+    slots: &[u32],
+    labels: &[i32],
+    scores: &[f32],
+    forward: &mut [f32],
+    reverse: &mut [f32],
+    forward_seen: &mut [u32],
+    reverse_seen: &mut [u32],
+) -> bool {
+    let filled = accepted(
+        slots,
+        labels,
+        scores,
+        forward,
+        reverse,
+        forward_seen,
+        reverse_seen,
+    );
+    let same = same_table(
+        fd,
+        names,
+        estimator,
+        bins,
+        forward,
+        reverse,
+        forward_seen,
+        reverse_seen,
+        slots,
+        labels,
+    );
+    filled & same
+}
+
+// The same with a table of so many slots.
+fn same_slots(
+    fd: i32,
+    names: Names,
+    estimator: Estimator,
+    count: usize,
+    bins: &[f64],
+    slots: &[u32],
+    labels: &[i32],
+    scores: &[f32],
+    forward: &mut [f32],
+    reverse: &mut [f32],
+    forward_seen: &mut [u32],
+    reverse_seen: &mut [u32],
+) -> bool {
+    if count > forward.len() {
+        return false;
+    }
+    if count > reverse.len() {
+        return false;
+    }
+    if count > forward_seen.len() {
+        return false;
+    }
+    if count > reverse_seen.len() {
+        return false;
+    }
+    same_filled(
+        fd,
+        names,
+        estimator,
+        bins,
+        slots,
+        labels,
+        scores,
+        &mut forward[..count],
+        &mut reverse[..count],
+        &mut forward_seen[..count],
+        &mut reverse_seen[..count],
+    )
+}
+
+// Lends a table of garbage for up to 210 slots.
+fn same_count(
+    fd: i32,
+    names: Names,
+    estimator: Estimator,
+    count: usize,
+    bins: &[f64],
+    slots: &[u32],
+    labels: &[i32],
+    scores: &[f32],
+) -> bool {
+    let mut forward = [9.5f32; 210];
+    let mut reverse = [9.5f32; 210];
+    let mut forward_seen = [1u32; 210];
+    let mut reverse_seen = [1u32; 210];
+    same_slots(
+        fd,
+        names,
+        estimator,
+        count,
+        bins,
+        slots,
+        labels,
+        scores,
+        &mut forward,
+        &mut reverse,
+        &mut forward_seen,
+        &mut reverse_seen,
+    )
+}
+
+// Reads the first `rows` rows.
+fn same_rows(
+    fd: i32,
+    names: Names,
+    estimator: Estimator,
+    count: usize,
+    rows: usize,
+    bins: &[f64],
+    slots: &mut [u32],
+    labels: &mut [i32],
+    scores: &mut [f32],
+) -> bool {
+    if rows > slots.len() {
+        return false;
+    }
+    if rows > labels.len() {
+        return false;
+    }
+    if rows > scores.len() {
+        return false;
+    }
+    replay::read_u32s(fd, &mut slots[..rows]);
+    replay::read_i32s(fd, &mut labels[..rows]);
+    replay::read_f32s(fd, &mut scores[..rows]);
+    same_count(
+        fd,
+        names,
+        estimator,
+        count,
+        bins,
+        &slots[..rows],
+        &labels[..rows],
+        &scores[..rows],
+    )
+}
+
+// Lends row columns for up to 240 rows.
+fn same_list(fd: i32, names: Names, estimator: Estimator, bins: &[f64]) -> bool {
+    let count = replay::read_length(fd);
+    let rows = replay::read_length(fd);
+    let mut slots = [0u32; 240];
+    let mut labels = [0i32; 240];
+    let mut scores = [0.0f32; 240];
+    same_rows(
+        fd,
+        names,
+        estimator,
+        count,
+        rows,
+        bins,
+        &mut slots,
+        &mut labels,
+        &mut scores,
+    )
+}
+
+// Reads the first `n` bins, least score and step.
+fn same_estimated(fd: i32, names: Names, n: usize, bins: &mut [f64]) -> bool {
+    if n > bins.len() {
+        return false;
+    }
+    replay::read_f64s(fd, &mut bins[..n]);
+    let least = replay::read_f64(fd);
+    let step = replay::read_f64(fd);
+    let estimator = Estimator {
+        min_score: least,
+        score_step: step,
+    };
+    same_list(fd, names, estimator, &bins[..n])
+}
+
+fn same_case(fd: i32) -> bool {
+    let mut bins = [0.0f64; 1000];
+    let names = names_of(replay::read_u32(fd));
+    let n = replay::read_length(fd);
+    same_estimated(fd, names, n, &mut bins)
+}
+
+// How many cases differ.
+fn mismatches(fd: i32, cases: usize) -> u64 {
+    let mut differing = 0;
+    for case in 0..cases {
+        differing = replay::counted(differing, same_case(fd));
+    }
+    differing
+}
+
+fn replayed(file: &[u8]) {
+    let fd = replay::open(file);
+    let cases = replay::read_cases(fd);
+    let differing = mismatches(fd, cases);
+    replay::finish(fd, file, cases, differing);
+}
+
+fn main() {
+    replayed(b"picked_protein");
+    replayed(b"picked_protein_group");
+}
