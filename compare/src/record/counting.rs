@@ -13,7 +13,7 @@ const PRECURSORS: [(usize, usize); 5] = [(0, 9), (19, 3), (20, 3), (37, 4), (40,
 
 /// So many random lists of up to so many rows.
 const RANDOM: usize = 930;
-const LONGEST: u64 = 40;
+const LONGEST: u64 = 24;
 
 /// The layout.
 const FILES: &str = "`spectrum_q_value`: the number of rows as u32, labels, rows * i32, q-values, rows * f32, and the count as u32.
@@ -22,7 +22,7 @@ const FILES: &str = "`spectrum_q_value`: the number of rows as u32, labels, rows
 scores differ as f32, since sage ranks equal ones in the order of its map.
 
 The lists: every pattern of up to nine decoys and targets, patterns behind so many targets that rows are at and beside one in 100 or
-one in 20, and random lists of up to 40 rows.
+one in 20, and random lists of up to 24 rows.
 ";
 
 /// Records lists of either sort.

@@ -1,6 +1,6 @@
 //! Answers of LinearDiscriminantAnalysis::train and score.
 
-use super::file::{describe, Recording};
+use super::file::{describe, until, Recording};
 use crate::cases::Random;
 use crate::fit::rows::{random_list, random_pair};
 use crate::fit::train::fit_of_sage;
@@ -38,9 +38,11 @@ pub fn record(folder: &Path) -> Result<()> {
     describe(folder, FILES)
 }
 
-/// Records one fit.
+/// Records one fit; two in three have both classes.
 fn add_fit(recording: &mut Recording, random: &mut Random, longest: u64) {
-    let (rows, labels) = random_list(random, longest);
+    let any = random.below(3) == 0;
+    let both = |labels: &[i32]| labels.iter().any(|label| *label == -1) && labels.iter().any(|label| *label != -1);
+    let (rows, labels) = until(|| random_list(random, longest), |(_, labels)| any || both(labels));
     let (number, coefficients) = fit_of_sage(&rows, &labels);
     recording.case();
     recording.length(rows.len());

@@ -1,7 +1,7 @@
 //! Answers of Gauss::solve.
 
-use super::file::{describe, Recording};
-use crate::fit::systems::{System, Systems};
+use super::file::{describe, until, Recording};
+use crate::fit::systems::{every_eps, System, Systems};
 use crate::vayemuku::fit::WIDTH;
 use sage_core::ml::gauss::Gauss;
 use sage_core::ml::matrix::Matrix;
@@ -12,12 +12,15 @@ use std::path::Path;
 const STEPS: [usize; 4] = [1, 1, 787, 3_907];
 
 /// So many numbers as random systems of each size, divided by the size.
-const OF_EACH_SIZE: usize = 160;
+const OF_EACH_SIZE: usize = 150;
+
+/// For each eps a system of each size from 2 to this that sage solves there first.
+const LATE_SIZES: usize = 6;
 
 /// The layout.
 const FILES: &str = "`solve`, Gauss::solve: the size as u32, the left side row after row, size * size * f64, the right side, size * f64,
 0 as u32 and the answer, size * f64, or only 7 as u32 where no eps solves the system. The systems: every one of size 1 with
-entries of a list of boundaries, some of sizes 2 and 3, and random ones of sizes 1 to 20.
+entries of a list of boundaries, some of sizes 2 and 3, random ones of sizes 1 to 20, and for each eps some that it solves first.
 ";
 
 /// Records small systems with boundaries as entries, and random systems of every size.
@@ -37,8 +40,19 @@ pub fn record(folder: &Path) -> Result<()> {
             add(&mut recording, &maker.of_size(size));
         }
     }
+    for eps in every_eps() {
+        for size in 2..=LATE_SIZES {
+            add(&mut recording, &until(|| maker.of_size(size), |system| first_eps(system) == Some(eps)));
+        }
+    }
     recording.save(folder, "solve")?;
     describe(folder, FILES)
+}
+
+/// The first eps at which sage solves a system.
+fn first_eps(system: &System) -> Option<f64> {
+    let (left, right) = system.matrices();
+    every_eps().into_iter().find(|eps| Gauss::solve_inner(left.clone(), right.clone(), *eps).is_some())
 }
 
 /// Records one system.

@@ -44,7 +44,10 @@ pub fn record(folder: &Path) -> Result<()> {
 fn drawn(random: &mut Random) -> Case {
     let labels = until(|| draws::labels(random), |labels| labels.len() <= MOST_ROWS);
     let scores = until(|| draws::scores(random, &labels), |scores| both_zeros_from(scores).is_none());
-    let bins = until(|| draws::bin_number(random), |bins| *bins <= MOST_BINS);
+    let bins = match random.below(2) {
+        0 => 1 + random.below(MOST_BINS as u64) as usize,
+        _ => until(|| draws::bin_number(random), |bins| *bins <= MOST_BINS),
+    };
     Case { monotonic: random.below(2) == 0, bins, scores, labels, widths: draws::widths(random) }
 }
 
