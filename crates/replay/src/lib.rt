@@ -153,7 +153,7 @@ pub fn same_f32s(fd: i32, column: &[f32]) -> bool {
 }
 
 // Whether a column holds these bits in every place.
-pub fn all_f64(column: &[f64], bits: u64) -> bool {
+fn all_bits(column: &[f64], bits: u64) -> bool {
     let mut same = true;
     for i in 0..column.len() {
         same = same & (bits_64(column[i]) == bits);
@@ -161,20 +161,17 @@ pub fn all_f64(column: &[f64], bits: u64) -> bool {
     same
 }
 
-// Whether the scores of a run are this one, or NaN where its recorded number refuses it.
-pub fn same_scores(scores: &[f64], score: f64, recorded: u32) -> bool {
-    if recorded == 0 {
-        return all_f64(scores, bits_64(score));
-    }
-    all_nan(scores)
+// Whether a column holds this float in every place.
+pub fn all_f64(column: &[f64], x: f64) -> bool {
+    all_bits(column, bits_64(x))
 }
 
 pub fn all_zero(column: &[f64]) -> bool {
-    all_f64(column, 0)
+    all_f64(column, 0.0)
 }
 
 pub fn all_nan(column: &[f64]) -> bool {
-    all_f64(column, NAN_64)
+    all_f64(column, 0.0 / 0.0)
 }
 
 pub fn all_nan_32(column: &[f32]) -> bool {

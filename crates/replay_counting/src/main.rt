@@ -1,5 +1,11 @@
 // Replays recorded answers of the Rust's spectrum_q_value and picked_precursor. data/README.md has the layout.
 
+// The function whose answers a file has.
+enum Recorded {
+    Spectrum,
+    Precursors,
+}
+
 // Whether the q-values of the first `n` rows, whose labels are read into this column, are the recorded ones, and the count.
 fn same_spectra(fd: i32, n: usize, labels: &mut [i32], q: &mut [f32]) -> bool {
     if n > labels.len() {
@@ -93,38 +99,30 @@ fn same_precursors(fd: i32) -> bool {
     same_rows(fd, n, &mut labels, &mut scores)
 }
 
+fn same_case(fd: i32, recorded: Recorded) -> bool {
+    match recorded {
+        Recorded::Spectrum => same_spectrum(fd),
+        Recorded::Precursors => same_precursors(fd),
+    }
+}
+
 // How many cases differ.
-fn spectrum_mismatches(fd: i32, cases: usize) -> u64 {
+fn mismatches(fd: i32, recorded: Recorded, cases: usize) -> u64 {
     let mut differing = 0;
     for case in 0..cases {
-        differing = replay::counted(differing, same_spectrum(fd));
+        differing = replay::counted(differing, same_case(fd, recorded));
     }
     differing
 }
 
-fn precursor_mismatches(fd: i32, cases: usize) -> u64 {
-    let mut differing = 0;
-    for case in 0..cases {
-        differing = replay::counted(differing, same_precursors(fd));
-    }
-    differing
-}
-
-fn spectra() {
-    let fd = replay::open(b"spectrum_q_value");
+fn replayed(recorded: Recorded, file: &[u8]) {
+    let fd = replay::open(file);
     let cases = replay::read_cases(fd);
-    let differing = spectrum_mismatches(fd, cases);
-    replay::finish(fd, b"spectrum_q_value", cases, differing);
-}
-
-fn precursors() {
-    let fd = replay::open(b"picked_precursor");
-    let cases = replay::read_cases(fd);
-    let differing = precursor_mismatches(fd, cases);
-    replay::finish(fd, b"picked_precursor", cases, differing);
+    let differing = mismatches(fd, recorded, cases);
+    replay::finish(fd, file, cases, differing);
 }
 
 fn main() {
-    spectra();
-    precursors();
+    replayed(Recorded::Spectrum, b"spectrum_q_value");
+    replayed(Recorded::Precursors, b"picked_precursor");
 }

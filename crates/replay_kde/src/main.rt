@@ -4,6 +4,12 @@ use kde::Built;
 use kde::Estimator;
 use kde::Posterior;
 
+// The function whose answers a file has.
+enum Recorded {
+    Build,
+    PosteriorError,
+}
+
 fn builder_of(monotonic: u32, bins: usize) -> Builder {
     let fresh = Builder::new();
     let asked = fresh.monotonic(monotonic == 1);
@@ -169,38 +175,30 @@ fn same_error(fd: i32) -> bool {
     same_on(fd, n, &mut bins)
 }
 
+fn same_case(fd: i32, recorded: Recorded) -> bool {
+    match recorded {
+        Recorded::Build => same_build(fd),
+        Recorded::PosteriorError => same_error(fd),
+    }
+}
+
 // How many cases differ.
-fn build_mismatches(fd: i32, cases: usize) -> u64 {
+fn mismatches(fd: i32, recorded: Recorded, cases: usize) -> u64 {
     let mut differing = 0;
     for case in 0..cases {
-        differing = replay::counted(differing, same_build(fd));
+        differing = replay::counted(differing, same_case(fd, recorded));
     }
     differing
 }
 
-fn error_mismatches(fd: i32, cases: usize) -> u64 {
-    let mut differing = 0;
-    for case in 0..cases {
-        differing = replay::counted(differing, same_error(fd));
-    }
-    differing
-}
-
-fn builds() {
-    let fd = replay::open(b"build");
+fn replayed(recorded: Recorded, file: &[u8]) {
+    let fd = replay::open(file);
     let cases = replay::read_cases(fd);
-    let differing = build_mismatches(fd, cases);
-    replay::finish(fd, b"build", cases, differing);
-}
-
-fn errors() {
-    let fd = replay::open(b"posterior_error");
-    let cases = replay::read_cases(fd);
-    let differing = error_mismatches(fd, cases);
-    replay::finish(fd, b"posterior_error", cases, differing);
+    let differing = mismatches(fd, recorded, cases);
+    replay::finish(fd, file, cases, differing);
 }
 
 fn main() {
-    builds();
-    errors();
+    replayed(Recorded::Build, b"build");
+    replayed(Recorded::PosteriorError, b"posterior_error");
 }

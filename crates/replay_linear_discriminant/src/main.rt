@@ -1,5 +1,11 @@
 // Replays recorded answers of the Rust's LinearDiscriminantAnalysis: train and score. data/README.md has the layout.
 
+// The function whose answers a file has.
+enum Recorded {
+    Train,
+    Score,
+}
+
 // Whether the fit of the first `n` rows, whose labels and features are read into these columns, is the recorded one.
 fn same_fit(fd: i32, n: usize, labels: &mut [i32], features: &mut [f64]) -> bool {
     if n > 60 {
@@ -37,23 +43,22 @@ fn same_train(fd: i32) -> bool {
     same_fit(fd, n, &mut labels, &mut features)
 }
 
-// Whether the run over one row has the recorded number, the score, and the recorded narrowed score, or NaN beside a recorded refusal.
+// Whether both columns of a run over one row are the recorded ones, or NaN beside a recorded refusal.
+fn same_columns(fd: i32, recorded: u32, score: f64, scores: &[f64], narrowed: &[f32]) -> bool {
+    if recorded == 0 {
+        return replay::same_f32s(fd, narrowed) & replay::all_f64(scores, score);
+    }
+    replay::all_nan_32(narrowed) & replay::all_nan(scores)
+}
+
+// Whether the run over one row has the recorded answers.
 fn same_run(fd: i32, coefficients: &[f64; 20], row: &[f64; 20], score: f64) -> bool {
     let recorded = replay::read_u32(fd);
     let mut scores = [9.0f64; 1];
     let mut narrowed = [9.0f32; 1];
     let answer = linear_discriminant::score_rows(coefficients, row, &mut scores, &mut narrowed);
     let number = columns::outcome_number(answer);
-    same_narrowed(fd, recorded, &narrowed)
-        & replay::same_scores(&scores, score, recorded)
-        & (number == recorded)
-}
-
-fn same_narrowed(fd: i32, recorded: u32, narrowed: &[f32]) -> bool {
-    if recorded == 0 {
-        return replay::same_f32s(fd, narrowed);
-    }
-    replay::all_nan_32(narrowed)
+    same_columns(fd, recorded, score, &scores, &narrowed) & (number == recorded)
 }
 
 fn same_score(fd: i32) -> bool {
@@ -66,38 +71,30 @@ fn same_score(fd: i32) -> bool {
     same_run(fd, &coefficients, &row, score) & same
 }
 
+fn same_case(fd: i32, recorded: Recorded) -> bool {
+    match recorded {
+        Recorded::Train => same_train(fd),
+        Recorded::Score => same_score(fd),
+    }
+}
+
 // How many cases differ.
-fn train_mismatches(fd: i32, cases: usize) -> u64 {
+fn mismatches(fd: i32, recorded: Recorded, cases: usize) -> u64 {
     let mut differing = 0;
     for case in 0..cases {
-        differing = replay::counted(differing, same_train(fd));
+        differing = replay::counted(differing, same_case(fd, recorded));
     }
     differing
 }
 
-fn score_mismatches(fd: i32, cases: usize) -> u64 {
-    let mut differing = 0;
-    for case in 0..cases {
-        differing = replay::counted(differing, same_score(fd));
-    }
-    differing
-}
-
-fn train() {
-    let fd = replay::open(b"train");
+fn replayed(recorded: Recorded, file: &[u8]) {
+    let fd = replay::open(file);
     let cases = replay::read_cases(fd);
-    let differing = train_mismatches(fd, cases);
-    replay::finish(fd, b"train", cases, differing);
-}
-
-fn score() {
-    let fd = replay::open(b"score");
-    let cases = replay::read_cases(fd);
-    let differing = score_mismatches(fd, cases);
-    replay::finish(fd, b"score", cases, differing);
+    let differing = mismatches(fd, recorded, cases);
+    replay::finish(fd, file, cases, differing);
 }
 
 fn main() {
-    train();
-    score();
+    replayed(Recorded::Train, b"train");
+    replayed(Recorded::Score, b"score");
 }

@@ -1,8 +1,8 @@
--- `replay::all_f64` is safe and ends. Assumes nothing.
+-- `replay::all_bits` is safe and ends. Assumes nothing.
 use Prim.Native.Nat.{_-_}
 use borrow.Author.Needs.{needs}
-use Rattle.replay.proofs.all_f64.Statement.{statement}
-use Rattle.replay.proofs.all_f64.Tie as tie
+use Rattle.replay.proofs.all_bits.Statement.{statement}
+use Rattle.replay.proofs.all_bits.Tie as tie
 
 abbrev Inv-loop : tie.InvT-loop
 Inv-loop column bits same₀ i₀ i-end same i = Unit {0}
@@ -10,8 +10,8 @@ Inv-loop column bits same₀ i₀ i-end same i = Unit {0}
 abbrev μ-loop : tie.MeasureT-loop
 μ-loop column bits same₀ i₀ i-end same i = i-end - i
 
-pub all-f64-spec : {M : Type 1} → statement M
-all-f64-spec =
+pub all-bits-spec : {M : Type 1} → statement M
+all-bits-spec =
     tie.close
     (tie.spec
     Inv-loop
