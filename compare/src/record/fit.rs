@@ -41,7 +41,7 @@ pub fn record(folder: &Path) -> Result<()> {
 /// Records one fit; two in three have both classes.
 fn add_fit(recording: &mut Recording, random: &mut Random, longest: u64) {
     let any = random.below(3) == 0;
-    let both = |labels: &[i32]| labels.iter().any(|label| *label == -1) && labels.iter().any(|label| *label != -1);
+    let both = |labels: &[i32]| labels.contains(&-1) && labels.iter().any(|label| *label != -1);
     let (rows, labels) = until(|| random_list(random, longest), |(_, labels)| any || both(labels));
     let (number, coefficients) = fit_of_sage(&rows, &labels);
     recording.case();
