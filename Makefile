@@ -12,6 +12,7 @@ help: ## this list
 
 test: ## host's tests; then prove every crate from nothing, try every must-fail edit, run every program; ends in 'N passed, 0 failed'
 	@command -v rt >/dev/null || { echo "make: the Rattle toolchain's command rt is not on the PATH" >&2; exit 1; }
+	docs/check
 	rt fmt --check
 	$(MAKE) --no-print-directory host
 	rt ci
