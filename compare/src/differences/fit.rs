@@ -10,7 +10,7 @@ use sage_core::scoring::Feature;
 
 /// The lines of both modules.
 pub fn lines() -> Vec<bool> {
-    [systems(), fits(), lengths()].concat()
+    [systems(), fits(), lengths(), vec![regular_fit()]].concat()
 }
 
 /// The port's number and the first numbers of its answer to a system with these entries and a right side of ones.
@@ -90,4 +90,13 @@ fn lengths() -> Vec<bool> {
         part("a fit of two rows and one label", (fit, "Err(Panicked)"), (train(rows.as_flattened(), &[-1]).0, "2")),
         part("the score of 19 numbers", (score, "19.0"), ((number, scores[0]), "(2, NaN)")),
     ]
+}
+
+/// A fit of finite rows of both classes: scatter 1 2, 2 4, and zeros. With any eps on its diagonal it can be inverted.
+fn regular_fit() -> bool {
+    let mut rows = [[0.0; WIDTH]; 3];
+    (rows[0][0], rows[0][1], rows[1][0], rows[1][1]) = (1.0, 2.0, -1.0, -2.0);
+    let sage = LinearDiscriminantAnalysis::train(&rows, &[true, true, false], |row: &Row| *row);
+    let port = train(rows.as_flattened(), &[-1, -1, 1]).0;
+    part("decoys 1 2 and -1 -2, a target of zeros", (sage.map(|fit| fit.coefficients()[0]), "None"), (port, "7"))
 }
