@@ -164,8 +164,8 @@ fn nan_side() -> bool {
     part("a target 1.0, its decoy -NaN, error -0.5", ([q[&0], q[&1]], "[0.5, 1.0]"), (port, "[1.0, 1.0]"))
 }
 
-/// Rows that take no part: of two proteins, of none and of one twice; of two groups, of one without a name, and of a name
-/// without a number.
+/// Rows that take no part: of two proteins, of none and of one twice; of two groups, of one without a name, and of a
+/// name without a number.
 fn no_part() -> Vec<bool> {
     let of = |names: &[&str], group: Option<&str>, num_protein_groups: u32| {
         let peptide = Peptide { proteins: names.iter().map(|name| (*name).into()).collect(), ..Peptide::default() };
