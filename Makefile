@@ -40,6 +40,7 @@ prepare: ## what compare and bench need: Debian's packaged crates, and sage's un
 
 compare: lib prepare ## the port beside sage's unchanged Rust and Rust's own operators, by bits; fails on one mismatch
 	$(COMPARE) smoke
+	$(COMPARE) differences
 	$(COMPARE) floats
 	$(COMPARE) counting
 	$(COMPARE) fit

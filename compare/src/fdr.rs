@@ -3,13 +3,13 @@
 
 mod beside_sage;
 pub mod draws;
-mod host;
+pub mod host;
 mod lent;
 mod longest;
 pub mod picked;
 pub mod reading;
 mod refusals;
-mod tables;
+pub mod tables;
 
 use crate::cases::Random;
 use crate::report::Tally;

@@ -3,6 +3,7 @@
 mod bench;
 mod cases;
 mod counting;
+mod differences;
 mod fdr;
 mod fit;
 mod floats;
@@ -23,6 +24,7 @@ const USAGE: &str = "usage: compare smoke
        compare fit [--systems N] [--fits N]
        compare kde [--builds N]
        compare fdr [--tables N]
+       compare differences
        compare sample TABLE LIST REFUSED
        compare record CRATES
        compare bench floats
@@ -52,6 +54,7 @@ fn run(words: &[&str]) -> Option<bool> {
         ["kde", "--builds", builds] => Some(kde::run(builds.parse().ok()?)),
         ["fdr"] => Some(fdr::run(TABLES)),
         ["fdr", "--tables", tables] => Some(fdr::run(tables.parse().ok()?)),
+        ["differences"] => Some(differences::run()),
         ["sample", table, list, refused] => Some(sample::run(table, list, refused)),
         ["record", crates] => Some(record::run(crates)),
         ["bench", "counting"] => Some(bench::counting::run()),

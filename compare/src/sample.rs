@@ -150,6 +150,7 @@ impl Columns {
     /// Prints all columns; true where nothing differs.
     fn print(&self) -> bool {
         let all = [&self.row, &self.score, &self.posterior_error, &self.spectrum_q, &self.protein_q, &self.counts];
-        all.iter().fold(true, |well, tally| tally.print() && well)
+        let same = all.map(Tally::print);
+        same.iter().all(|same| *same)
     }
 }

@@ -9,3 +9,6 @@ impl LinearDiscriminantAnalysis {
         &self.coef
     }
 }
+
+/// The private names of features.
+pub const NAMES: [&str; FEATURES] = FEATURE_NAMES;

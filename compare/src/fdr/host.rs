@@ -149,7 +149,7 @@ fn errors(parts: &Parts, scores: &[f64], column: &mut [f64]) -> Result<(), Strin
 }
 
 /// The host's transformation of a row: the lines of score_psms.
-fn transformed(perc: &Feature, mass_error: f64) -> Row {
+pub fn transformed(perc: &Feature, mass_error: f64) -> Row {
     let poisson = match (-perc.poisson).ln_1p() {
         x if x.is_finite() => x,
         _ => 3.5,

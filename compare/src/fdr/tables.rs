@@ -160,7 +160,7 @@ fn refused_batch(random: &mut Random, table: &mut LentTable, rows: &Rows) -> Res
 }
 
 /// Rows of these slots, labels and scores.
-fn rows(list: &[(u32, i32, f32)]) -> Rows {
+pub fn rows(list: &[(u32, i32, f32)]) -> Rows {
     let (slots, (labels, scores)) = list.iter().map(|(slot, label, score)| (*slot, (*label, *score))).unzip();
     Rows { slots, labels, scores }
 }

@@ -1,0 +1,60 @@
+//! Module 6.
+
+use super::part;
+use crate::sage::Rows;
+use crate::vayemuku::{picked_precursor, spectrum_q_value};
+use fnv::FnvHashMap;
+use sage_core::database::PeptideIx;
+use sage_core::lfq::{Peak, PrecursorId};
+use std::collections::BTreeSet;
+
+/// Two targets and a decoy.
+const LABELS: [i32; 3] = [1, 1, -1];
+
+/// The lines of the module.
+pub fn lines() -> Vec<bool> {
+    vec![tied(), nan(), labels()]
+}
+
+/// sage's q-values of two targets and a decoy with these scores, whose peptides are numbered from `first` on.
+fn sage(first: u32, scores: [f64; 3]) -> [f32; 3] {
+    let key = |place: u32| (PrecursorId::Combined(PeptideIx(first + place)), place == 2);
+    let peak = |score| (Peak { score, ..Peak::default() }, Vec::new());
+    let mut peaks: FnvHashMap<_, _> = (0..3).map(|place| (key(place), peak(scores[place as usize]))).collect();
+    sage_core::fdr::picked_precursor(&mut peaks);
+    [0, 1, 2].map(|place| peaks[&key(place)].0.q_value)
+}
+
+/// The port's.
+fn port(scores: [f64; 3]) -> [f32; 3] {
+    let (mut keys, mut spare, mut q) = ([5; 3], [5; 3], [0.25; 3]);
+    picked_precursor(&LABELS, &scores, &mut keys, &mut spare, &mut q);
+    q
+}
+
+/// Equal scores: sage's answers under several numbers of the same three peptides.
+fn tied() -> bool {
+    let answers: BTreeSet<String> = (0..16).map(|first| format!("{:?}", sage(first, [1.0; 3]))).collect();
+    part(
+        "two target precursors and a decoy, all scored 1.0",
+        (answers, "{\"[0.5, 0.5, 1.0]\", \"[1.0, 1.0, 1.0]\"}"),
+        (port([1.0; 3]), "[0.5, 0.5, 1.0]"),
+    )
+}
+
+/// A NaN with the sign set.
+fn nan() -> bool {
+    let scores = [1.0, 0.0, -f64::NAN];
+    let (sage, port) = (sage(0, scores), port(scores));
+    part("targets 1.0 and 0.0, a decoy -NaN", (sage, "[0.5, 0.5, 1.0]"), (port, "[1.0, 1.0, 1.0]"))
+}
+
+/// Labels that are neither -1 nor 1.
+fn labels() -> bool {
+    let labels = [0, 7, -2];
+    let (mut rows, mut q) = (Rows::default(), [0.25; 3]);
+    let sage: Vec<f32> = rows.spectrum(&labels).0.collect();
+    spectrum_q_value(&labels, &mut q);
+    let third = "[0.33333334, 0.33333334, 0.33333334]";
+    part("spectra labelled 0, 7 and -2", (sage, third), (q, third))
+}

@@ -1,0 +1,206 @@
+//! Module 5.
+
+use super::part;
+use crate::fdr::draws::Rows;
+use crate::fdr::reading::{Columns, NO_PART};
+use crate::fdr::tables::rows as columns;
+use crate::vayemuku::fdr::{add_rows, assign_q_value, fresh_table, winners, Errors, Filled};
+use fnv::FnvHashMap;
+use sage_core::database::{IndexedDatabase, PeptideIx};
+use sage_core::fdr::{opened, picked_protein, picked_protein_group, Competition};
+use sage_core::ml::kde::{forcing, recording, Build, Parts};
+use sage_core::peptide::Peptide;
+use sage_core::scoring::Feature;
+use std::collections::BTreeSet;
+
+/// The field of a q-value before a call.
+const BEFORE: f32 = 0.5;
+
+/// A row: its slot, label and score.
+type Row = (u32, i32, f32);
+
+/// The lines of the module.
+pub fn lines() -> Vec<bool> {
+    let lone =
+        [label_and_peptide(), no_rows(), no_targets(), never_scored(), names_that_meet(), one_name(), nan_side()];
+    [lone.to_vec(), tied(), no_part(), sides()].concat()
+}
+
+/// Bins from the least score 0 on, a step of 1 apart.
+fn bins(bins: &[f64]) -> Parts {
+    Parts { bins: bins.to_vec(), min_score: 0.0, score_step: 1.0 }
+}
+
+/// A database of two proteins, each with a target peptide and a decoy behind it.
+fn database(names: [&str; 2], generate_decoys: bool) -> IndexedDatabase {
+    let of = |decoy, name: &str| Peptide { decoy, proteins: vec![name.into()], ..Peptide::default() };
+    let peptides = names.iter().flat_map(|name| [of(false, name), of(true, name)]).collect();
+    IndexedDatabase { peptides, generate_decoys, decoy_tag: "rev_".to_string(), ..IndexedDatabase::default() }
+}
+
+/// A row of sage's of a peptide.
+fn feature(peptide: u32, label: i32, score: f32) -> Feature {
+    let (peptide_idx, protein_q) = (PeptideIx(peptide), BEFORE);
+    Feature { peptide_idx, label, discriminant_score: score, protein_q, protein_group_q: BEFORE, ..Feature::default() }
+}
+
+/// sage's q-values of proteins, and its count.
+fn sage(db: &IndexedDatabase, rows: &[Row], parts: &Parts) -> (Vec<f32>, usize) {
+    let row = |&(slot, label, score): &Row| feature(2 * slot + u32::from(label == -1), label, score);
+    let mut rows: Vec<Feature> = rows.iter().map(row).collect();
+    let count = forcing(parts.clone(), || picked_protein(db, &mut rows));
+    (rows.iter().map(|row| row.protein_q).collect(), count)
+}
+
+/// The port's table of two slots with these rows.
+fn table(rows: &[Row]) -> Columns {
+    let mut table =
+        Columns { forward: vec![0.5; 2], reverse: vec![0.5; 2], forward_seen: vec![5; 2], reverse_seen: vec![5; 2] };
+    fresh_table(&mut table.lend());
+    add_rows(columns(rows).all(), &mut table.lend());
+    table
+}
+
+/// The port's q-values of rows in a table, and its count; `two_names` is 0 for one name.
+fn assigned(two_names: u32, table: &mut Columns, rows: &[Row], parts: &Parts) -> (Vec<f32>, usize) {
+    let Rows { slots, labels, .. } = columns(rows);
+    let (mut keys, mut spare, mut q) = ([5; 4], [5; 4], vec![BEFORE; rows.len()]);
+    let errors = Errors { min_score: parts.min_score, score_step: parts.score_step, bins: &parts.bins };
+    let mut filled = Filled { keys: &mut keys, spare: &mut spare, q: &mut q };
+    let (_, count) = assign_q_value(two_names, errors, &table.lend(), &slots, &labels, &mut filled);
+    (q, count)
+}
+
+/// The same from rows alone.
+fn port(two_names: u32, rows: &[Row], parts: &Parts) -> (Vec<f32>, usize) {
+    assigned(two_names, &mut table(rows), rows, parts)
+}
+
+/// A row labelled as a decoy whose peptide is a target.
+fn label_and_peptide() -> bool {
+    let mut rows = [feature(0, -1, 0.0)];
+    let db = database(["P", "Q"], true);
+    let count = forcing(bins(&[-1.0]), || picked_protein(&db, &mut rows));
+    let port = port(1, &[(0, -1, 0.0)], &bins(&[-1.0]));
+    part("label -1, peptide a target, error -1", ((rows[0].protein_q, count), "(0.0, 1)"), (port, "([1.0], 0)"))
+}
+
+/// No rows.
+fn no_rows() -> bool {
+    let sage = sage(&database(["P", "Q"], true), &[], &bins(&[0.5]));
+    part("no rows of proteins", (sage, "([], 0)"), (port(1, &[], &bins(&[0.5])), "([], 0)"))
+}
+
+/// A decoy alone, whose error brings the sum to -1: over no targets that is an infinity.
+fn no_targets() -> bool {
+    let (rows, parts) = ([(0, -1, 0.0)], bins(&[-2.0]));
+    let sage = sage(&database(["P", "Q"], true), &rows, &parts);
+    part("a decoy alone, error -2", (sage, "([-inf], 0)"), (port(1, &rows, &parts), "([-inf], 0)"))
+}
+
+/// A target whose only score leaves f32::MIN: what the densities are made of.
+fn never_scored() -> bool {
+    let mut rows = [feature(0, 1, f32::NEG_INFINITY)];
+    let (_, builds) = recording(|| picked_protein(&database(["P", "Q"], true), &mut rows));
+    let Build { scores, decoys, .. } = &builds[0];
+    let (mut score, mut decoy) = ([0.5; 2], [5; 2]);
+    winners(&table(&[(0, 1, f32::NEG_INFINITY)]).lend(), &mut score, &mut decoy);
+    part(
+        "a target scored -infinity alone: the slot's score, and whether it is a decoy",
+        ((scores[0], decoys[0]), "(-3.4028234663852886e38, true)"),
+        ((score, decoy), "([-3.4028235e38, NaN], [1, 4294967295])"),
+    )
+}
+
+/// The decoy of P and the target rev_P, under two names.
+fn names_that_meet() -> bool {
+    let (rows, parts) = ([(0, -1, 0.0), (1, 1, 1.0)], bins(&[1.0, -1.0]));
+    let sage = sage(&database(["P", "rev_P"], true), &rows, &parts);
+    part(
+        "a decoy of P 0.0, the target rev_P 1.0",
+        (sage, "([1.0, 1.0], 1)"),
+        (port(1, &rows, &parts), "([1.0, 0.0], 1)"),
+    )
+}
+
+/// The q-value of a name, and the count, which goes by rows.
+fn one_name() -> bool {
+    let (rows, parts) = ([(0, 1, 1.0), (0, -1, 0.0)], bins(&[1.0, -1.0]));
+    let sage = sage(&database(["P", "Q"], false), &rows, &parts);
+    part("one name, target 1.0, decoy 0.0", (sage, "([1.0, 1.0], 1)"), (port(0, &rows, &parts), "([1.0, 1.0], 1)"))
+}
+
+/// Sides scored 1.0: sage's answers under several names of the two proteins.
+fn tied() -> Vec<bool> {
+    let answers = |rows: &[Row], parts: &Parts| -> BTreeSet<String> {
+        let under = |name: u32| sage(&database(["P", &format!("Q{name}")], true), rows, parts).0;
+        (0..32).map(|name| format!("{:?}", under(name))).collect()
+    };
+    let (two, below) = ([(0, 1, 1.0), (1, -1, 1.0)], bins(&[-2.0]));
+    let (three, quarter) = ([(0, 1, 1.0), (1, 1, 1.0), (1, -1, 1.0)], bins(&[0.25]));
+    vec![
+        part(
+            "a target of one protein, a decoy of another, both 1.0, errors -2",
+            (answers(&two, &below), "{\"[-3.0, -3.0]\", \"[-3.0, -inf]\"}"),
+            (port(1, &two, &below).0, "[-3.0, -3.0]"),
+        ),
+        part(
+            "a target of one protein, both sides of another, all 1.0, errors 0.25",
+            (answers(&three, &quarter), "{\"[0.75, 0.75, 0.875]\", \"[0.875, 0.875, 0.875]\"}"),
+            (port(1, &three, &quarter).0, "[0.75, 0.75, 0.875]"),
+        ),
+    ]
+}
+
+/// A lent side of -NaN, ranked last by sage and first by the port: its error is NaN, and with it every later sum.
+fn nan_side() -> bool {
+    let slot = Competition { forward: 1.0, foward_ix: Some(0), reverse: -f32::NAN, reverse_ix: Some(1) };
+    let map: FnvHashMap<u32, Competition<u32>> = [(0, slot)].into_iter().collect();
+    let (q, _) = forcing(bins(&[-0.5]), || opened::assign_q_value(map, 0.01));
+    let rows = [(0, 1, 1.0), (0, -1, 0.0)];
+    let mut table = table(&rows);
+    table.reverse[0] = -f32::NAN;
+    let port = assigned(1, &mut table, &rows, &bins(&[-0.5])).0;
+    part("a target 1.0, its decoy -NaN, error -0.5", ([q[&0], q[&1]], "[0.5, 1.0]"), (port, "[1.0, 1.0]"))
+}
+
+/// Rows that take no part: of two proteins, of none and of one twice; of two groups, of one without a name, and of a
+/// name without a number.
+fn no_part() -> Vec<bool> {
+    let of = |names: &[&str], group: Option<&str>, num_protein_groups: u32| {
+        let peptide = Peptide { proteins: names.iter().map(|name| (*name).into()).collect(), ..Peptide::default() };
+        let db = IndexedDatabase { peptides: vec![peptide], ..IndexedDatabase::default() };
+        let mut rows =
+            [Feature { protein_groups: group.map(str::to_string), num_protein_groups, ..feature(0, 1, 1.0) }];
+        picked_protein(&db, &mut rows);
+        picked_protein_group(&db, &mut rows);
+        (rows[0].protein_q, rows[0].protein_group_q)
+    };
+    let line = |input, sage| {
+        let port = port(1, &[(NO_PART, 1, 1.0)], &bins(&[0.5])).0;
+        part(input, (sage, "(0.5, 0.5)"), (port, "[1.0]"))
+    };
+    vec![
+        line("two proteins, two groups, fields 0.5", of(&["P", "Q"], Some("P/Q"), 2)),
+        line("no protein, one group without a name, fields 0.5", of(&[], None, 1)),
+        line("the protein P twice, no group by number, fields 0.5", of(&["P", "P"], Some("P"), 0)),
+    ]
+}
+
+/// Sides that are zeros, and a lent NaN: the slot's score, and whether it is a decoy.
+fn sides() -> Vec<bool> {
+    let of = |forward: f32, reverse: f32| {
+        let slot = Competition { forward, reverse, ..Competition::<u32>::default() };
+        let sage = (opened::score(&slot), opened::is_decoy(&slot));
+        let mut table = table(&[(0, 1, 0.0)]);
+        (table.forward[0], table.reverse[0]) = (forward, reverse);
+        let (mut score, mut decoy) = ([0.5; 2], [5; 2]);
+        winners(&table.lend(), &mut score, &mut decoy);
+        (sage, (score[0], decoy[0]))
+    };
+    let (zeros, nan) = (of(0.0, -0.0), of(f32::NAN, 1.0));
+    vec![
+        part("forward 0.0, reverse -0.0", (zeros.0, "(0.0, true) or (-0.0, true)"), (zeros.1, "(0.0, 1)")),
+        part("forward NaN, reverse 1.0", (nan.0, "(1.0, false)"), (nan.1, "(1.0, 0)")),
+    ]
+}
