@@ -14,7 +14,7 @@ use lib.IntN.{ℤ}
 use lib.ListN.{length, getD, take, length-map}
 use lib.Ieee.{Float, nan, binary32, le}
 use Rattle.folds.specs.Columns.{filled, tabulated}
-use Rattle.folds.proofs.Tests.{lt-or-ge}
+use Rattle.folds.proofs.Tests.{lt-or-ge, both}
 use Rattle.folds.proofs.Columns.{getD-tabulated}
 use Rattle.columns.specs.Refusals.{longest}
 use Rattle.columns.specs.declared.Counted.{Counted}
@@ -144,10 +144,6 @@ targets-up c (l ∷ ls) (q ∷ qs) zero e g =
 targets-up c (l ∷ ls) (q ∷ qs) (suc line) e g =
     rw (g 0 (zero-lt-suc (length ls)), leb·suc-suc, leb·zero, targets-up c ls qs line (omega (arith, e)) (λ (i : ℕ) (h : i < length ls). g (suc i) (omega arith) ∙ leb·suc-suc (suc i) line))
 
-both-true : (a b : Bool) → a && b ≡ true → (a ≡ true) × (b ≡ true)
-both-true true b e = (refl, e)
-both-true false b e = absurd (false≢true e)
-
 module _ (labels : List ℤ) (scores : List Float) (keys spare : ℕ) (q : List Float) (count line : ℕ)
     (a : precursorAnswer labels scores keys spare (length q) ≡ Passing count) (l : line ≤ length labels) (r : RightLine 20 (asRanked labels scores) line) where
   ranked-labels : List ℤ
@@ -163,13 +159,13 @@ module _ (labels : List ℤ) (scores : List Float) (keys spare : ℕ) (q : List 
       (targetsAtMost (oneIn 20) (asRanked labels scores) (qValues (asRanked labels scores))) count a
 
   same : length scores ≡ length labels
-  same = eqb-true (length scores) (length labels) (both-true _ _ (let-in .1) .0)
+  same = eqb-true (length scores) (length labels) (both _ _ (let-in .1) .0)
 
   as-long : length (asRanked labels scores) ≡ length labels
-  as-long = length-as-ranked labels scores same (leb-true (length labels) longest (both-true _ _ (let-in .0) .0))
+  as-long = length-as-ranked labels scores same (leb-true (length labels) longest (both _ _ (let-in .0) .0))
 
   few : length (asRanked labels scores) ≤ longest
-  few = subst (λ (n : ℕ). n ≤ longest) (sym as-long) (leb-true (length labels) longest (both-true _ _ (let-in .0) .0))
+  few = subst (λ (n : ℕ). n ≤ longest) (sym as-long) (leb-true (length labels) longest (both _ _ (let-in .0) .0))
 
   right-is : rightLine 20 (asRanked labels scores) ≡ line
   right-is = sym (right-line-only 20 (asRanked labels scores) line r (subst (λ (n : ℕ). line ≤ n) (sym as-long) l))

@@ -8,6 +8,8 @@ use lib.Dec.{leb, eqb}
 use lib.IntN.{ℤ}
 use lib.ListN.{length, getD, set, replicate}
 use lib.Ieee.{Float, nan}
+use Rattle.folds.proofs.Columns.{tabulated-constant}
+use Rattle.folds.proofs.Tests.{both}
 use Rattle.folds.specs.Columns.{filled, tabulated}
 use Rattle.columns.specs.Refusals.{longest}
 use Rattle.columns.specs.declared.Outcome.{Outcome}
@@ -17,7 +19,6 @@ use Rattle.columns.specs.declared.Refusal.the-variants.{TooLong, WrongLength, N
 use Rattle.counting.specs.Labels.{isDecoy}
 use Rattle.competition.specs.Tables.{Table, isSeen, tableShort, tableFits, accepted, noPart, allowed, allAllowed, raiseForward, raiseReverse, withRow, added, addAnswer, addedTable, AddReady}
 use Rattle.competition.specs.Winners.{slotSeen, winner, decoyFlag, winnersAnswer, winnerScores, winnerDecoys}
-use Rattle.competition.proofs.Slots.{both}
 use Rattle.competition.proofs.Answers.{table-fitting}
 use Rattle.competition.proofs.Rows.{SameLengths, same-lengths-trans, row-lengths}
 
@@ -154,16 +155,6 @@ keeps-or Accepted w = w
 keeps-or (Refused r) w = keeps-refl
 
 -- ---- columns of one value
-
-pub tabulated-constant : {A : Type 0} (f : ℕ → A) (v : A) → ((i : ℕ) → f i ≡ v) → (a k : ℕ) → tabulated f a k ≡ replicate k v
-unfolding tabulated
-tabulated-constant f v h a zero = refl
-tabulated-constant {A} f v h a (suc k) = rw (h a, tabulated-constant f v h (suc a) k)
-
-pub getD-constant : {A : Type 0} (n i : ℕ) (v : A) → getD (replicate n v) i v ≡ v
-getD-constant zero i v = refl
-getD-constant (suc n) zero v = refl
-getD-constant (suc n) (suc i) v = getD-constant n i v
 
 -- ---- winners of a table in which no slot is seen
 

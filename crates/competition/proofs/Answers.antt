@@ -8,12 +8,12 @@ use lib.Dec.{leb, eqb}
 use lib.IntN.{ℤ}
 use lib.ListN.{length}
 use lib.Ieee.{Float, nan}
+use Rattle.folds.proofs.Tests.{both}
 use Rattle.folds.specs.Columns.{filled, tabulated}
 use Rattle.columns.specs.Refusals.{longest}
 use Rattle.columns.specs.declared.Outcome.{Outcome}
 use Rattle.columns.specs.declared.Outcome.the-variants.{Accepted, Refused}
 use Rattle.columns.specs.declared.Refusal.the-variants.{TooLong, WrongLength, NoSuchSlot}
-use Rattle.competition.proofs.Slots.{both}
 use Rattle.competition.specs.declared.Competition.{Competition}
 use Rattle.columns.specs.declared.Refusal.{Refusal}
 use Rattle.competition.specs.Tables.{Table, tableOf, lowest, tableShort, tableFits, freshAnswer, freshTable, accepted, allAllowed, added, addAnswer, addedTable, AddReady}

@@ -11,6 +11,8 @@ use lib.IntN.{ℤ}
 use lib.ListN.{length, getD, set, length-append}
 use lib.Seq.{set-getD}
 use lib.Ieee.{Float, nan, inf, fin, isNan, lt, eq, le, ofBits}
+use Rattle.folds.proofs.Columns.{getD-constant}
+use Rattle.folds.proofs.Tests.{both}
 use Rattle.folds.specs.Columns.{filled}
 use Rattle.floats.specs.Least.{greater}
 use Rattle.floats.proofs.Order.{greater-nan, eq→le, le-refl}
@@ -19,9 +21,8 @@ use Rattle.columns.specs.declared.Outcome.the-variants.{Accepted}
 use Rattle.counting.specs.Labels.{isDecoy}
 use Rattle.competition.specs.Tables.{Table, tableOf, lowest, noPart, accepted, freshAnswer, freshTable, allAllowed, withRow, added, addAnswer, addedTable}
 use Rattle.competition.specs.Winners.{slotSeen, decoyFlag, winnerScores, winnerDecoys}
-use Rattle.competition.proofs.Slots.{both}
 use Rattle.competition.proofs.Rows.{SameLengths}
-use Rattle.competition.proofs.Accepting.{accepting, accepted-when, table-of-accepted, all-allowed-joined, batch-lengths, same-lengths-or, answer-by-lengths, KeepsSeen, batch-keeps, keeps-or, getD-constant, unseen-scores, unseen-decoys}
+use Rattle.competition.proofs.Accepting.{accepting, accepted-when, table-of-accepted, all-allowed-joined, batch-lengths, same-lengths-or, answer-by-lengths, KeepsSeen, batch-keeps, keeps-or, unseen-scores, unseen-decoys}
 
 -- ---- batch after batch
 

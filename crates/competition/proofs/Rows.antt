@@ -15,12 +15,12 @@ use lib.Ieee.{Float, nan}
 use mir.Syntax.{w32}
 use mir.Val.{SFits, ofZ, toZ}
 use mir.ValLaws.{toZ-ofZ}
+use Rattle.folds.proofs.Tests.{both}
 use Rattle.floats.specs.Least.{greater}
 use Rattle.counting.specs.Labels.{isDecoy}
 use Rattle.counting.proofs.Tally.{label-test}
 use Rattle.competition.specs.declared.Competition.{Competition}
 use Rattle.competition.specs.Tables.{Table, tableOf, noPart, raiseForward, raiseReverse, withRow, added, allowed, allAllowed, RowReady, AddReady}
-use Rattle.competition.proofs.Slots.{both}
 
 -- ---- the three ways through `add_row`
 

@@ -9,11 +9,6 @@ use lib.ListN.{length, drop, getD}
 use lib.Seq.{drop-cons, drop-length}
 use Rattle.competition.specs.Tables.{allowed, allAllowed}
 
--- both tests pass where their conjunction does
-pub both : (a b : Bool) → (a && b) ≡ true → (a ≡ true) × (b ≡ true)
-both true b e = (refl, e)
-both false b e = absurd (false≢true e)
-
 -- `all` is the answer for the first i slots: joined with the answer for the rest it is the whole list's
 pub record Asking (count : ℕ) (slots : List ℕ) (all : Bool) (i : ℕ) : Type 0 where
   pub high : i ≤ length slots

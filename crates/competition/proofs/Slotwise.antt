@@ -8,6 +8,7 @@ use lib.ListN.{length, getD, set}
 use lib.Seq.{set-set}
 use lib.Ieee.{Float, nan, binary32, div, le, ofBits}
 use mir.Val.{boolByte}
+use Rattle.folds.proofs.Tests.{byte-is}
 use Rattle.folds.specs.Columns.{tabulated}
 use Rattle.folds.proofs.Columns.{Writing, writing-start, writing-step, writing-done}
 use Rattle.floats.specs.Least.{greater}
@@ -27,10 +28,6 @@ seen-test a b = go (eqb a 0) (eqb b 0)
     go : (x y : Bool) → (not x || not y) ≡ not (x && y)
     go true y = refl
     go false y = refl
-
-byte-of : (b : Bool) → boolByte b ≡ cond b 1 0
-byte-of true = refl
-byte-of false = refl
 
 module _ {t : Table} {scores : List Float} {decoys : List ℕ} {slot : ℕ} (w : Slotwise t scores decoys slot) where
   pub slotwise-done : length (t .forward) ≤ slot
@@ -56,5 +53,5 @@ module _ {t : Table} {scores : List Float} {decoys : List ℕ} {slot : ℕ} (w :
         rw (set-set scores slot z x, set-set decoys slot 4294967295 (boolByte d))
         (record {
           scores-are = writing-step (w .scores-are) h (rw s p);
-          decoys-are = writing-step (w .decoys-are) h (rw s (byte-of d ∙ ap (λ (b : Bool). cond b 1 0) q));
+          decoys-are = writing-step (w .decoys-are) h (rw s (byte-is d ∙ ap (λ (b : Bool). cond b 1 0) q));
         })

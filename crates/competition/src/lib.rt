@@ -63,7 +63,12 @@ impl Competition {
 }
 
 // Question 1 of a table's columns.
-fn table_short(forward: &[f32], reverse: &[f32], forward_seen: &[u32], reverse_seen: &[u32]) -> bool
+pub fn table_short(
+    forward: &[f32],
+    reverse: &[f32],
+    forward_seen: &[u32],
+    reverse_seen: &[u32],
+) -> bool
     ensures { λ r. ⌜ r ≡ tableShort (tableOf (now (forward .entry)) (now (reverse .entry)) (now («forward_seen» .entry)) (now («reverse_seen» .entry))) ⌝ }
 {
     (forward.len() <= columns::LONGEST)
@@ -72,7 +77,12 @@ fn table_short(forward: &[f32], reverse: &[f32], forward_seen: &[u32], reverse_s
 }
 
 // Question 2 of a table's columns: one entry per slot.
-fn table_fits(forward: &[f32], reverse: &[f32], forward_seen: &[u32], reverse_seen: &[u32]) -> bool
+pub fn table_fits(
+    forward: &[f32],
+    reverse: &[f32],
+    forward_seen: &[u32],
+    reverse_seen: &[u32],
+) -> bool
     ensures { λ r. ⌜ r ≡ tableFits (tableOf (now (forward .entry)) (now (reverse .entry)) (now («forward_seen» .entry)) (now («reverse_seen» .entry))) ⌝ }
 {
     let slots = forward.len();

@@ -9,6 +9,7 @@ use lib.Dec.{leb, eqb}
 use lib.IntN.{ℤ}
 use lib.ListN.{length}
 use lib.Ieee.{Float, nan}
+use Rattle.folds.proofs.Tests.{both, no-is, yes-is}
 use Rattle.folds.specs.Columns.{filled}
 use Rattle.columns.specs.Refusals.{longest}
 use Rattle.columns.specs.declared.Outcome.{Outcome}
@@ -20,21 +21,12 @@ use Rattle.columns.specs.declared.Refusal.the-variants.{TooLong, WrongLength, O
 use Rattle.kde.specs.Answers.{inRange}
 use Rattle.kde.specs.declared.Estimator.{Estimator}
 use Rattle.competition.specs.Tables.{Table, tableShort, tableFits, allAllowed}
-use Rattle.competition.proofs.Slots.{both}
 use Rattle.competition.proofs.Answers.{table-fitting}
 use Rattle.fdr.specs.declared.Names.{Names}
-use Rattle.fdr.specs.QValues.{passing, rowsQ, assignAsked, assignAnswer, assignColumn}
-use Rattle.fdr.specs.Passes.{asked, Ready}
+use Rattle.fdr.specs.QValues.{passing, rowsQ, assignAsked, countedIf, assignAnswer, assignColumn}
+use Rattle.fdr.specs.Passes.{Ready}
 
 -- ---- tests
-
-no : (b : Bool) → not b ≡ true → b ≡ false
-no true e = sym e
-no false e = refl
-
-yes : (b : Bool) → not b ≡ false → b ≡ true
-yes true e = refl
-yes false e = sym e
 
 -- the answer by the four tests
 abbrev answered : Bool → Bool → Bool → Bool → Outcome
@@ -43,12 +35,8 @@ answered short fit ranged allowed =
 
 -- ---- what `ask` answers
 
-abbrev shortTest : ℕ → ℕ → ℕ → ℕ → ℕ → ℕ → Bool
-shortTest rows labels forward reverse forwardSeen reverseSeen =
-    leb rows longest && (leb labels longest && (leb forward longest && (leb reverse longest && (leb forwardSeen longest && leb reverseSeen longest))))
-
-abbrev tableTest : ℕ → ℕ → ℕ → ℕ → Bool
-tableTest forward reverse forwardSeen reverseSeen = eqb reverse forward && (eqb forwardSeen forward && eqb reverseSeen forward)
+abbrev shortTest : ℕ → ℕ → Bool → Bool
+shortTest rows labels table = leb rows longest && (leb labels longest && table)
 
 abbrev workingTest : ℕ → ℕ → ℕ → Bool
 workingTest forward keys spare = eqb keys (2 * forward) && eqb spare (2 * forward)
@@ -56,45 +44,52 @@ workingTest forward keys spare = eqb keys (2 * forward) && eqb spare (2 * forwar
 abbrev fitTest : ℕ → ℕ → ℕ → Bool → Bool → Bool
 fitTest rows labels q table working = eqb labels rows && (eqb q rows && (table && working))
 
-pub few-slots : (rows labels forward reverse forwardSeen reverseSeen : ℕ) (short : Bool) → short ≡ shortTest rows labels forward reverse forwardSeen reverseSeen
-    → not short ≡ false → forward ≤ longest
-few-slots rows labels forward reverse forwardSeen reverseSeen short s y =
-    leb-true forward longest (both (leb forward longest) _ (both (leb labels longest) _ (both (leb rows longest) _ (sym s ∙ yes short y) .1) .1) .0)
+short-slots : (t : Table) (rows labels : ℕ) → shortTest rows labels (tableShort t) ≡ true → length (t .forward) ≤ longest
+short-slots t rows labels e =
+    leb-true (length (t .forward)) longest (both (leb (length (t .forward)) longest) _ (both (leb labels longest) _ (both (leb rows longest) _ e .1) .1) .0)
 
-module _ (bins forward reverse forwardSeen reverseSeen : ℕ) (slots : List ℕ) (labels keys spare q : ℕ) where
+module _ (t : Table) (bins : ℕ) (slots : List ℕ) (labels keys spare q : ℕ) where
   abbrev short? : Bool
-  short? = shortTest (length slots) labels forward reverse forwardSeen reverseSeen
+  short? = shortTest (length slots) labels (tableShort t)
 
   abbrev fit? : Bool
-  fit? = fitTest (length slots) labels q (tableTest forward reverse forwardSeen reverseSeen) (workingTest forward keys spare)
+  fit? = fitTest (length slots) labels q (tableFits t) (workingTest (length (t .forward)) keys spare)
 
-  by-tests : (a b c d : Bool) → short? ≡ a → fit? ≡ b → inRange bins ≡ c → allAllowed forward slots ≡ d
-      → answered a b c d ≡ asked bins forward reverse forwardSeen reverseSeen slots labels keys spare q
-  unfolding asked
+  by-tests : (a b c d : Bool) → short? ≡ a → fit? ≡ b → inRange bins ≡ c → allAllowed (length (t .forward)) slots ≡ d
+      → answered a b c d ≡ assignAsked t bins slots labels keys spare q
+  unfolding assignAsked
   by-tests a b c d s f r l =
-      sym (ap₂ (λ (x y : Bool). answered x y (inRange bins) (allAllowed forward slots)) s f ∙ ap₂ (λ (x y : Bool). answered a b x y) r l)
+      sym (ap₂ (λ (x y : Bool). answered x y (inRange bins) (allAllowed (length (t .forward)) slots)) s f ∙ ap₂ (λ (x y : Bool). answered a b x y) r l)
 
-  pub too-long : (short : Bool) → short ≡ short? → not short ≡ true → Refused TooLong ≡ asked bins forward reverse forwardSeen reverseSeen slots labels keys spare q
-  too-long short s n = by-tests false _ _ _ (sym s ∙ no _ n) refl refl refl
+  module _ (few short : Bool) (k : few ≡ tableShort t) (s : short ≡ shortTest (length slots) labels few) where
+    short-is : short? ≡ short
+    short-is = sym (s ∙ ap (shortTest (length slots) labels) k)
 
-  module _ (short : Bool) (s : short ≡ short?) (long : not short ≡ false) (table working fit : Bool) (t : table ≡ tableTest forward reverse forwardSeen reverseSeen)
-      (w : working ≡ workingTest forward keys spare) (f : fit ≡ fitTest (length slots) labels q table working) where
-    fits-are : fit? ≡ fit
-    fits-are = sym (f ∙ ap₂ (fitTest (length slots) labels q) t w)
+    pub too-long : not short ≡ true → Refused TooLong ≡ assignAsked t bins slots labels keys spare q
+    too-long n = by-tests false _ _ _ (short-is ∙ no-is _ n) refl refl refl
 
-    pub wrong-length : not fit ≡ true → Refused WrongLength ≡ asked bins forward reverse forwardSeen reverseSeen slots labels keys spare q
-    wrong-length n = by-tests true false _ _ (sym s ∙ yes _ long) (fits-are ∙ no _ n) refl refl
+    module _ (long : not short ≡ false) where
+      pub few-slots : length (t .forward) ≤ longest
+      few-slots = short-slots t (length slots) labels (short-is ∙ yes-is _ long)
 
-    module _ (fitting : not fit ≡ false) (ranged : Bool) (r : ranged ≡ inRange bins) where
-      pub out-of-range : not ranged ≡ true → Refused OutOfRange ≡ asked bins forward reverse forwardSeen reverseSeen slots labels keys spare q
-      out-of-range n = by-tests true true false _ (sym s ∙ yes _ long) (fits-are ∙ yes _ fitting) (sym r ∙ no _ n) refl
+      module _ (table working fit : Bool) (m : table ≡ tableFits t)
+          (w : working ≡ workingTest (length (t .forward)) keys spare) (f : fit ≡ fitTest (length slots) labels q table working) where
+        fits-are : fit? ≡ fit
+        fits-are = sym (f ∙ ap₂ (fitTest (length slots) labels q) m w)
 
-      module _ (some : not ranged ≡ false) (allowed : Bool) (a : allowed ≡ allAllowed forward slots) where
-        pub no-such-slot : not allowed ≡ true → Refused NoSuchSlot ≡ asked bins forward reverse forwardSeen reverseSeen slots labels keys spare q
-        no-such-slot n = by-tests true true true false (sym s ∙ yes _ long) (fits-are ∙ yes _ fitting) (sym r ∙ yes _ some) (sym a ∙ no _ n)
+        pub wrong-length : not fit ≡ true → Refused WrongLength ≡ assignAsked t bins slots labels keys spare q
+        wrong-length n = by-tests true false _ _ (short-is ∙ yes-is _ long) (fits-are ∙ no-is _ n) refl refl
 
-        pub accepted : not allowed ≡ false → Accepted ≡ asked bins forward reverse forwardSeen reverseSeen slots labels keys spare q
-        accepted y = by-tests true true true true (sym s ∙ yes _ long) (fits-are ∙ yes _ fitting) (sym r ∙ yes _ some) (sym a ∙ yes _ y)
+        module _ (fitting : not fit ≡ false) (ranged : Bool) (r : ranged ≡ inRange bins) where
+          pub out-of-range : not ranged ≡ true → Refused OutOfRange ≡ assignAsked t bins slots labels keys spare q
+          out-of-range n = by-tests true true false _ (short-is ∙ yes-is _ long) (fits-are ∙ yes-is _ fitting) (sym r ∙ no-is _ n) refl
+
+          module _ (some : not ranged ≡ false) (allowed : Bool) (a : allowed ≡ allAllowed (length (t .forward)) slots) where
+            pub no-such-slot : not allowed ≡ true → Refused NoSuchSlot ≡ assignAsked t bins slots labels keys spare q
+            no-such-slot n = by-tests true true true false (short-is ∙ yes-is _ long) (fits-are ∙ yes-is _ fitting) (sym r ∙ yes-is _ some) (sym a ∙ no-is _ n)
+
+            pub accepted : not allowed ≡ false → Accepted ≡ assignAsked t bins slots labels keys spare q
+            accepted y = by-tests true true true true (short-is ∙ yes-is _ long) (fits-are ∙ yes-is _ fitting) (sym r ∙ yes-is _ some) (sym a ∙ yes-is _ y)
 
 -- ---- what it accepts is ready
 
@@ -105,16 +100,14 @@ all-yes true true false d e = let z : _≡_ {A = ℕ} 0 1 = cc in absurd (omega 
 all-yes true false c d e = let z : _≡_ {A = ℕ} 0 1 = cc in absurd (omega arith)
 all-yes false b c d e = let z : _≡_ {A = ℕ} 0 1 = cc in absurd (omega arith)
 
-pub ready : (bins : ℕ) (t : Table) (slots : List ℕ) (labels keys spare q : ℕ) (o : Outcome)
-    → o ≡ asked bins (length (t .forward)) (length (t .reverse)) (length (t .forwardSeen)) (length (t .reverseSeen)) slots labels keys spare q → o ≡ Accepted
-    → Ready t bins slots labels keys spare q
-unfolding asked
-ready bins t slots labels keys spare q o is accepts =
+pub ready : (t : Table) (bins : ℕ) (slots : List ℕ) (labels keys spare q : ℕ) (o : Outcome)
+    → o ≡ assignAsked t bins slots labels keys spare q → o ≡ Accepted → Ready t bins slots labels keys spare q
+unfolding assignAsked
+ready t bins slots labels keys spare q o is accepts =
     let n = length (t .forward) in
     let rows = length slots in
     let y =
-    all-yes (shortTest rows labels n (length (t .reverse)) (length (t .forwardSeen)) (length (t .reverseSeen))) (fitTest rows labels q (tableFits t) (workingTest n keys spare))
-    (inRange bins) (allAllowed n slots) (sym is ∙ accepts) in
+    all-yes (shortTest rows labels (tableShort t)) (fitTest rows labels q (tableFits t) (workingTest n keys spare)) (inRange bins) (allAllowed n slots) (sym is ∙ accepts) in
     let f = both (eqb labels rows) _ (y .1 .0) in
     let g = both (eqb q rows) _ (f .1) in
     let h = both (tableFits t) _ (g .1) in
@@ -123,7 +116,7 @@ ready bins t slots labels keys spare q o is accepts =
     let r = both (leb 1 bins) _ (y .1 .1 .0) in
     record {
       even = record {
-        short = leb-true n longest (both (leb n longest) _ (both (leb labels longest) _ (both (leb rows longest) _ (y .0) .1) .1) .0);
+        short = short-slots t rows labels (y .0);
         reverse-fit = i .0;
         forward-marks = i .1;
         reverse-marks = i .2;
@@ -139,46 +132,18 @@ ready bins t slots labels keys spare q o is accepts =
 
 -- ---- the call's answer and column
 
-abbrev after : Outcome → Counted → Counted
-after Accepted a = a
-after (Refused r) a = counted.Refused r
+module _ (names : Names) (e : Estimator) (bins : List Float) (t : Table) (slots : List ℕ) (labels : List ℤ) (keys spare : ℕ) (q₀ : List Float) (o : Outcome)
+    (is : o ≡ assignAsked t (length bins) slots (length labels) keys spare (length q₀)) where
+  pub refused : (r : Refusal) → o ≡ Refused r → (q : List Float) → q ≡ filled nan q₀
+      → (counted.Refused r ≡ assignAnswer e bins t slots (length labels) keys spare (length q₀)) × (q ≡ assignColumn names e bins t slots labels keys spare q₀)
+  unfolding assignAnswer assignColumn
+  refused r w q h =
+      let a : assignAsked t (length bins) slots (length labels) keys spare (length q₀) ≡ Refused r = sym is ∙ w in
+      (sym (ap (λ (x : Outcome). countedIf x (passing e bins t)) a), rw a h)
 
-module _ (names : Names) (e : Estimator) (bins : List Float) (t : Table) (slots : List ℕ) (labels : List ℤ) (keys spare : ℕ) (q₀ : List Float) where
-  asks : (accepted : Counted) → assignAsked t bins slots (length labels) keys spare (length q₀) accepted
-      ≡ after (asked (length bins) (length (t .forward)) (length (t .reverse)) (length (t .forwardSeen)) (length (t .reverseSeen)) slots (length labels) keys spare (length q₀)) accepted
-  unfolding assignAsked asked
-  asks accepted =
-      go (leb (length slots) longest && (leb (length labels) longest && tableShort t))
-      (eqb (length labels) (length slots) && (eqb (length q₀) (length slots) && (tableFits t && (eqb keys (2 * length (t .forward)) && eqb spare (2 * length (t .forward))))))
-      (inRange (length bins)) (allAllowed (length (t .forward)) slots)
-    where
-      go : (a b c d : Bool)
-          → cond a (cond b (cond c (cond d accepted (counted.Refused NoSuchSlot)) (counted.Refused OutOfRange)) (counted.Refused WrongLength)) (counted.Refused TooLong)
-          ≡ after (answered a b c d) accepted
-      go true true true true = refl
-      go true true true false = refl
-      go true true false d = refl
-      go true false c d = refl
-      go false b c d = refl
-
-  module _ (o : Outcome)
-      (is : o ≡ asked (length bins) (length (t .forward)) (length (t .reverse)) (length (t .forwardSeen)) (length (t .reverseSeen)) slots (length labels) keys spare (length q₀)) where
-    answer-is : assignAnswer e bins t slots (length labels) keys spare (length q₀) ≡ after o (counted.Passing (passing e bins t))
-    unfolding assignAnswer
-    answer-is = asks (counted.Passing (passing e bins t)) ∙ ap (λ (x : Outcome). after x (counted.Passing (passing e bins t))) (sym is)
-
-    pub refused : (r : Refusal) → o ≡ Refused r → (q : List Float) → q ≡ filled nan q₀
-        → (counted.Refused r ≡ assignAnswer e bins t slots (length labels) keys spare (length q₀)) × (q ≡ assignColumn names e bins t slots labels keys spare q₀)
-    unfolding assignColumn
-    refused r w q h =
-        let a : assignAnswer e bins t slots (length labels) keys spare (length q₀) ≡ counted.Refused r =
-        answer-is ∙ ap (λ (x : Outcome). after x (counted.Passing (passing e bins t))) w in
-        (sym a, rw a h)
-
-    pub passes : o ≡ Accepted → (n : ℕ) (q : List Float) → n ≡ passing e bins t → q ≡ rowsQ names e bins t slots labels
-        → (counted.Passing n ≡ assignAnswer e bins t slots (length labels) keys spare (length q₀)) × (q ≡ assignColumn names e bins t slots labels keys spare q₀)
-    unfolding assignColumn
-    passes w n q c h =
-        let a : assignAnswer e bins t slots (length labels) keys spare (length q₀) ≡ counted.Passing (passing e bins t) =
-        answer-is ∙ ap (λ (x : Outcome). after x (counted.Passing (passing e bins t))) w in
-        (ap counted.Passing c ∙ sym a, rw a h)
+  pub passes : o ≡ Accepted → (n : ℕ) (q : List Float) → n ≡ passing e bins t → q ≡ rowsQ names e bins t slots labels
+      → (counted.Passing n ≡ assignAnswer e bins t slots (length labels) keys spare (length q₀)) × (q ≡ assignColumn names e bins t slots labels keys spare q₀)
+  unfolding assignAnswer assignColumn
+  passes w n q c h =
+      let a : assignAsked t (length bins) slots (length labels) keys spare (length q₀) ≡ Accepted = sym is ∙ w in
+      (ap counted.Passing c ∙ sym (ap (λ (x : Outcome). countedIf x (passing e bins t)) a), rw a h)

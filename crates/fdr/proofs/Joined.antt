@@ -11,6 +11,7 @@ use lib.IntN.{ℤ, pos}
 use lib.ListN.{length, getD, take, drop, replicate, length-map, length-replicate, getD-replicate}
 use lib.Seq.{take-at, length-take-le, length-front}
 use lib.Ieee.{Float, nan, binary32, fits, ofBits}
+use Rattle.folds.proofs.Columns.{tabulated-same, same-blank}
 use Rattle.folds.specs.Columns.{filled, tabulated}
 use Rattle.floats.specs.Ratio.{oneIn}
 use Rattle.counting.specs.Labels.{isDecoy}
@@ -79,16 +80,6 @@ module _ (e : Estimator) (bins : List Float) (t : Table) (keys : List ℕ) where
       (rank-all keys₂ k count keys₃ c m)
 
 -- ---- the rows
-
-tabulated-same : {A : Type 0} (f g : ℕ → A) (a k : ℕ) → ((i : ℕ) → i < k → f (a + i) ≡ g (a + i)) → tabulated f a k ≡ tabulated g a k
-unfolding tabulated
-tabulated-same f g a zero h = refl
-tabulated-same f g a (suc k) h =
-    ap₂ _∷_ (ap f (sym (add-zero a)) ∙ h 0 (zero-lt-suc k) ∙ ap g (add-zero a))
-    (tabulated-same f g (suc a) k (λ (i : ℕ) (l : i < k). ap f (suc-add a i ∙ sym (add-suc a i)) ∙ h (suc i) (suc-le-suc l) ∙ ap g (add-suc a i ∙ sym (suc-add a i))))
-
-same-blank : (c d : List ℕ) → length c ≡ length d → filled 0 c ≡ filled 0 d
-same-blank c d e = ap (λ (n : ℕ). replicate n 0) e
 
 -- every key names a slot, so that its names are below the names' count
 doubled : (n m : ℕ) → m ≡ 2 * n → (keys : List ℕ) → All (Within n) keys → All (λ k. k % 4294967296 / 2 * 2 + 1 < m) keys
@@ -234,10 +225,8 @@ module _ {bins : List Float} {t : Table} {slots : List ℕ} {labels : List ℤ} 
             ∙ ap (λ (ss : List Side). targetsAtMost (oneIn 100) (map sideLabel ss) (sideQ e bins ss)) ranked-are,
         (
           reads
-              ∙ tabulated-same (λ i. rowOf names column (getD slots i 0) (getD labels i (pos 0)))
-              (λ i. rowQ names (rankedSides t) (sideQ e bins (rankedSides t)) (getD slots i 0) (getD labels i (pos 0))) 0 (length slots)
-              (λ i h. row-reads (getD slots (0 + i) 0) (getD labels (0 + i) (pos 0))
-              (all-at (λ n. eqb n noPart ≡ false → n * 2 + 1 < length column) slots slots-within (0 + i) (omega arith))),
-          (k ∙ same-blank (part₁ ++ drop rows keys₁) keys₀ (length-front keys₁ part₁ rows (r .same-keys) ∙ w .same), s ∙ same-blank column spare₀ column-length),
+              ∙ tabulated-same (length slots)
+              (λ i h. row-reads (getD slots i 0) (getD labels i (pos 0)) (all-at (λ n. eqb n noPart ≡ false → n * 2 + 1 < length column) slots slots-within i h)),
+          (k ∙ same-blank 0 (part₁ ++ drop rows keys₁) keys₀ (length-front keys₁ part₁ rows (r .same-keys) ∙ w .same), s ∙ same-blank 0 column spare₀ column-length),
         ),
       )

@@ -33,14 +33,6 @@ below b a h = omega arith
 pub along-lt : (k : ℕ) → k % 4294967296 < 4294967296
 along-lt k = omega arith
 
-pub byte-most : (b : Bool) → boolByte b ≤ 1
-byte-most true = lit≤ tt
-byte-most false = lit≤ tt
-
-pub byte-is : (b : Bool) → boolByte b ≡ cond b 1 0
-byte-is true = refl
-byte-is false = refl
-
 -- ---- what all keys have, one of them has
 
 pub all-at : (P : ℕ → Type 0) (l : List ℕ) → All P l → (i : ℕ) → i < length l → P (getD l i 0)

@@ -13,12 +13,13 @@ use lib.ListN.{length, getD, take, drop, set, length-set}
 use lib.Seq.{drop-cons, drop-length, set-split, take-set-le, take-take, getD-take, drop-at, length-take-le}
 use lib.Ieee.{Float, binary32, isNan, le, ofBits, toBits}
 use mir.Val.{boolByte}
+use Rattle.folds.proofs.Tests.{byte-most}
 use Rattle.floats.specs.Least.{lesser}
 use Rattle.floats.specs.Ratio.{oneIn}
 use Rattle.counting.specs.QValues.{lowest, lows, targetsAtMost}
 use Rattle.counting.proofs.Lowest.{lowest-number}
 use Rattle.fdr.specs.Passes.{tagged, numberOf, labelOf, All, Tagged}
-use Rattle.fdr.proofs.Keys.{byte-most, all-at, least-number}
+use Rattle.fdr.proofs.Keys.{all-at, least-number}
 
 pub record Minima (keys₀ : List ℕ) (i : ℕ) (least : Float) (passing : ℕ) (keys : List ℕ) : Type 0 where
   pub high : i ≤ length keys₀

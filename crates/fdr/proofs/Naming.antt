@@ -10,8 +10,8 @@ use borrow.Author.Tests.{eqb-true, eqb-false, ltb-true}
 use lib.ListN.{length, getD, drop, set, replicate, length-set, drop-of-length-le}
 use lib.Seq.{drop-cons, getD-set-same, getD-set-other}
 use lib.Ieee.{binary32, isNan, ofBits}
+use Rattle.folds.proofs.Tests.{both}
 use Rattle.competition.specs.Tables.{Table, noPart, allowed, allAllowed}
-use Rattle.competition.proofs.Slots.{both}
 use Rattle.fdr.specs.declared.Names.{Names}
 use Rattle.fdr.specs.declared.Names.the-variants.{Two, One}
 use Rattle.fdr.specs.QValues.{nameOf, qOf}

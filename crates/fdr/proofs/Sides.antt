@@ -16,7 +16,7 @@ use Rattle.columns.specs.Refusals.{longest}
 use Rattle.ranking.specs.Ranking.{Row, inserted, rankedFrom, ranked}
 use Rattle.ranking.specs.Keys.{insert, sorted, packed}
 use Rattle.ranking.proofs.Sorting.{insert-here, insert-past}
-use Rattle.ranking.proofs.Ranks.{Fitting, Rising, packedFrom, sorted-ranks, unpacked}
+use Rattle.ranking.proofs.Ranks.{Fitting, Rising, packedFrom, sorted-ranks, unpacked, Each, no-row, one-row, in-list}
 use Rattle.competition.specs.Tables.{Table, isSeen}
 use Rattle.fdr.specs.Rows.{Side, sidesFrom, seenSides, rankedSides}
 use Rattle.fdr.specs.Passes.{alongOf, sideKey, sideAlong, sideOf, plain, All, Within}
@@ -171,24 +171,6 @@ as-packed along a (s ∷ ss) h =
 
 -- ---- ranked rows
 
-abbrev Placed : ℕ → List Row → Type 0
-Placed n [] = Unit {0}
-Placed n (r ∷ rs) = (r .place < n) × Placed n rs
-
-placed-inserted : (n : ℕ) (r : Row) (rs : List Row) → r .place < n → Placed n rs → Placed n (inserted r rs)
-unfolding inserted
-placed-inserted n r [] h w = (h, tt)
-placed-inserted n r (x ∷ xs) h w = go (before (r .score) (x .score)) (placed-inserted n r xs h (w .1))
-  where
-    go : (b : Bool) → Placed n (inserted r xs) → Placed n (cond b (x ∷ inserted r xs) (r ∷ x ∷ xs))
-    go true v = (w .0, v)
-    go false v = (h, w)
-
-placed-from : (n a : ℕ) (scores : List Float) → a + length scores ≤ n → Placed n (rankedFrom a scores)
-unfolding rankedFrom
-placed-from n a [] h = tt
-placed-from n a (s ∷ ss) h = placed-inserted n (record { score = s; place = a }) (rankedFrom (suc a) ss) (omega arith) (placed-from n (suc a) ss (omega arith))
-
 -- the keys in ascending order are of the ranked sides
 pub sorted-sides : (t : Table) → length (t .forward) ≤ longest → Listed t 0 (length (t .forward) * 2) (seenSides t)
     → map (sideOf t) (sorted (map sideKey (seenSides t))) ≡ rankedSides t
@@ -205,14 +187,14 @@ sorted-sides t short w =
     ap (λ (ks : List ℕ). map (sideOf t) (sorted ks)) (as-packed (alongAt sides) 0 sides (λ i l. ap (alongAt sides) (zero-add i)))
     ∙ ap (map (sideOf t)) (sorted-ranks (alongAt sides) 0 scores up (listed-fit t 0 hi sides w))
     ∙ map-map (sideOf t) (λ (r : Row). packed (r .score) (alongAt sides (r .place))) (ranked scores)
-    ∙ go (ranked scores) (placed-from (length sides) 0 scores (omega arith))
+    ∙ go (subst (λ (n : ℕ). Each (λ r. r .place < n) (ranked scores)) many (in-list scores))
   where
     small : (p : ℕ) → p < length (seenSides t) → alongAt (seenSides t) p < 4294967296
     small p h = omega (arith, listed-at t 0 (length (t .forward) * 2) (seenSides t) w p h .high)
 
-    go : (rows : List Row) → Placed (length (seenSides t)) rows
+    go : {rows : List Row} → Each (λ r. r .place < length (seenSides t)) rows
         → map (λ r. sideOf t (packed (r .score) (alongAt (seenSides t) (r .place)))) rows ≡ map (λ r. getD (seenSides t) (r .place) none) rows
-    go [] v = refl
-    go (r ∷ rs) v =
-        ap₂ _∷_ (ap (sideAlong t) (unpacked (r .score) (alongAt (seenSides t) (r .place)) (small (r .place) (v .0)))
-        ∙ listed-at t 0 (length (t .forward) * 2) (seenSides t) w (r .place) (v .0) .back) (go rs (v .1))
+    go no-row = refl
+    go (one-row {r = r} h v) =
+        ap₂ _∷_ (ap (sideAlong t) (unpacked (r .score) (alongAt (seenSides t) (r .place)) (small (r .place) h))
+        ∙ listed-at t 0 (length (t .forward) * 2) (seenSides t) w (r .place) h .back) (go v)

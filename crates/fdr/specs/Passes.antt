@@ -111,20 +111,8 @@ pub record Ratable (bins forward reverse : ℕ) (keys : List ℕ) : Type 0 where
   pub within : All (Within forward) keys
   pub countable : plain keys ≤ longest
 
--- ---- the questions, of so many bins, slots, marks, labels, keys, spares and places of the result
+-- ---- what the questions let pass
 
-unfoldable pub asked : ℕ → ℕ → ℕ → ℕ → ℕ → List ℕ → ℕ → ℕ → ℕ → ℕ → Outcome
-unfolding allAllowed
-asked bins forward reverse forwardSeen reverseSeen slots labels keys spare q =
-    cond (leb (length slots) longest
-    && (leb labels longest && (leb forward longest && (leb reverse longest && (leb forwardSeen longest && leb reverseSeen longest)))))
-    (cond (eqb labels (length slots)
-    && (eqb q (length slots) && ((eqb reverse forward && (eqb forwardSeen forward && eqb reverseSeen forward)) && (eqb keys (2 * forward) && eqb spare (2 * forward)))))
-    (cond (inRange bins) (cond (allAllowed forward slots) Accepted (Refused NoSuchSlot)) (Refused OutOfRange))
-    (Refused WrongLength))
-    (Refused TooLong)
-
--- what they let pass
 pub record Ready (t : Table) (bins : ℕ) (slots : List ℕ) (labels keys spare q : ℕ) : Type 0 where
   pub even : Even t keys
   pub spare-fit : spare ≡ 2 * length (t .forward)

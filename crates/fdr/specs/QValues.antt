@@ -11,6 +11,9 @@ use Rattle.folds.specs.Columns.{filled, tabulated}
 use Rattle.floats.specs.Convert.{converted}
 use Rattle.floats.specs.Ratio.{oneIn}
 use Rattle.columns.specs.Refusals.{longest}
+use Rattle.columns.specs.declared.Outcome.{Outcome}
+use Rattle.columns.specs.declared.Outcome.the-variants as outcome
+use Rattle.columns.specs.declared.Outcome.the-variants.{Accepted}
 use Rattle.columns.specs.declared.Counted.{Counted}
 use Rattle.columns.specs.declared.Counted.the-variants.{Passing, Refused}
 use Rattle.columns.specs.declared.Refusal.the-variants.{TooLong, WrongLength, OutOfRange, NoSuchSlot}
@@ -19,7 +22,7 @@ use Rattle.counting.specs.QValues.{lows, targetsAtMost}
 use Rattle.kde.specs.declared.Estimator.{Estimator}
 use Rattle.kde.specs.Answers.{inRange}
 use Rattle.kde.specs.Estimate.{posteriorError}
-use Rattle.competition.specs.Tables.{Table, tableShort, tableFits, noPart, allAllowed}
+use Rattle.competition.specs.Tables.{Table, tableShort, tableFits, noPart, allAllowed, accepted}
 use Rattle.fdr.specs.declared.Names.{Names}
 use Rattle.fdr.specs.declared.Names.the-variants.{Two, One}
 use Rattle.fdr.specs.Rows.{Side, rankedSides}
@@ -78,27 +81,27 @@ rowsQ names e bins t slots labels =
     let qs = sideQ e bins sides in
     tabulated (λ i. rowQ names sides qs (getD slots i 0) (getD labels i (pos 0))) 0 (length slots)
 
--- ---- the call: questions 1, 2, 3 and 5, of so many keys and spares, "two entries per slot", and a result of so many places
+-- ---- the call: questions 1, 2, 3 and 5, of so many bins, labels, keys and spares, "two entries per slot", and a result of so many places
 
-unfoldable pub assignAsked : Table → List Float → List ℕ → ℕ → ℕ → ℕ → ℕ → Counted → Counted
+unfoldable pub assignAsked : Table → ℕ → List ℕ → ℕ → ℕ → ℕ → ℕ → Outcome
 unfolding allAllowed
-assignAsked t bins slots labels keys spare q accepted =
+assignAsked t bins slots labels keys spare q =
     cond (leb (length slots) longest && (leb labels longest && tableShort t))
     (cond (eqb labels (length slots)
     && (eqb q (length slots) && (tableFits t && (eqb keys (2 * length (t .forward)) && eqb spare (2 * length (t .forward))))))
-    (cond (inRange (length bins)) (cond (allAllowed (length (t .forward)) slots) accepted (Refused NoSuchSlot)) (Refused OutOfRange))
-    (Refused WrongLength))
-    (Refused TooLong)
+    (cond (inRange bins) (cond (allAllowed (length (t .forward)) slots) Accepted (outcome.Refused NoSuchSlot)) (outcome.Refused OutOfRange))
+    (outcome.Refused WrongLength))
+    (outcome.Refused TooLong)
+
+abbrev pub countedIf : Outcome → ℕ → Counted
+countedIf Accepted n = Passing n
+countedIf (outcome.Refused r) n = Refused r
 
 unfoldable pub assignAnswer : Estimator → List Float → Table → List ℕ → ℕ → ℕ → ℕ → ℕ → Counted
 unfolding assignAsked passing
-assignAnswer e bins t slots labels keys spare q = assignAsked t bins slots labels keys spare q (Passing (passing e bins t))
-
-abbrev pub counted : {A : Type 0} → Counted → A → A → A
-counted (Passing n) a b = a
-counted (Refused r) a b = b
+assignAnswer e bins t slots labels keys spare q = countedIf (assignAsked t (length bins) slots labels keys spare q) (passing e bins t)
 
 unfoldable pub assignColumn : Names → Estimator → List Float → Table → List ℕ → List ℤ → ℕ → ℕ → List Float → List Float
-unfolding assignAnswer rowsQ
+unfolding assignAsked rowsQ
 assignColumn names e bins t slots labels keys spare q =
-    counted (assignAnswer e bins t slots (length labels) keys spare (length q)) (rowsQ names e bins t slots labels) (filled nan q)
+    accepted (assignAsked t (length bins) slots (length labels) keys spare (length q)) (rowsQ names e bins t slots labels) (filled nan q)

@@ -16,8 +16,8 @@ ghost use Rattle.ranking.specs.Keys.{sorted};
 ghost use Rattle.kde.specs.Answers.{inRange};
 ghost use Rattle.competition.specs.Tables.{isSeen, tableOf};
 ghost use Rattle.fdr.specs.Rows.{seenSides};
-ghost use Rattle.fdr.specs.QValues.{one, sideQ, passing, rowsQ, nameOf, assignAnswer, assignColumn};
-ghost use Rattle.fdr.specs.Passes.{sideKey, scoreAt, sideOf, plain, tagged, numberOf, labelOf, cappedFrom, named, rowOf, All, Within, Bits, Tagged, Even, Ratable, asked, Ready};
+ghost use Rattle.fdr.specs.QValues.{one, sideQ, passing, rowsQ, nameOf, assignAsked, assignAnswer, assignColumn};
+ghost use Rattle.fdr.specs.Passes.{sideKey, scoreAt, sideOf, plain, tagged, numberOf, labelOf, cappedFrom, named, rowOf, All, Within, Bits, Tagged, Even, Ratable, Ready};
 use columns::Counted;
 use columns::Outcome;
 use columns::Refusal;
@@ -246,29 +246,11 @@ fn assigned(
     passing
 }
 
-// Question 1: is every list short enough?
-fn short_enough(
-    slots: usize,
-    labels: usize,
-    forward: usize,
-    reverse: usize,
-    forward_seen: usize,
-    reverse_seen: usize,
-) -> bool
-    ensures { λ r. ⌜ r ≡ (leb slots longest && (leb labels longest && (leb forward longest && (leb reverse longest && (leb «forward_seen» longest && leb «reverse_seen» longest))))) ⌝ }
+// Question 1: is every list short enough? `table` says so of the table's columns.
+fn short_enough(rows: usize, labels: usize, table: bool) -> bool
+    ensures { λ r. ⌜ r ≡ (leb rows longest && (leb labels longest && table)) ⌝ }
 {
-    (slots <= columns::LONGEST)
-        & ((labels <= columns::LONGEST)
-            & ((forward <= columns::LONGEST)
-                & ((reverse <= columns::LONGEST)
-                    & ((forward_seen <= columns::LONGEST) & (reverse_seen <= columns::LONGEST)))))
-}
-
-// Question 2 of a table's columns: one entry per slot.
-fn table_fits(forward: usize, reverse: usize, forward_seen: usize, reverse_seen: usize) -> bool
-    ensures { λ r. ⌜ r ≡ (eqb reverse forward && (eqb «forward_seen» forward && eqb «reverse_seen» forward)) ⌝ }
-{
-    (reverse == forward) & ((forward_seen == forward) & (reverse_seen == forward))
+    (rows <= columns::LONGEST) & ((labels <= columns::LONGEST) & table)
 }
 
 // Question 2 of the working columns: two entries per slot.
@@ -286,40 +268,40 @@ fn one_per_row(rows: usize, labels: usize, q: usize, table: bool, working: bool)
     (labels == rows) & ((q == rows) & (table & working))
 }
 
-// Question 3.
-fn in_range(bins: usize) -> bool
-    ensures { λ r. ⌜ r ≡ inRange bins ⌝ }
-{
-    (1 <= bins) & (bins <= kde::MOST_BINS)
-}
-
 // Questions 1, 2, 3 and 5, in this order.
 fn ask(
     bins: usize,
-    forward: usize,
-    reverse: usize,
-    forward_seen: usize,
-    reverse_seen: usize,
+    forward: &[f32],
+    reverse: &[f32],
+    forward_seen: &[u32],
+    reverse_seen: &[u32],
     slots: &[u32],
     labels: usize,
     keys: usize,
     spare: usize,
     q: usize,
 ) -> Outcome
-    ensures { λ r. ⌜ r ≡ asked bins forward reverse «forward_seen» «reverse_seen» (now (slots .entry)) labels keys spare q ⌝ }
+    ensures { λ r. ⌜ r ≡ assignAsked (tableOf (now (forward .entry)) (now (reverse .entry)) (now («forward_seen» .entry)) (now («reverse_seen» .entry))) bins (now (slots .entry)) labels keys spare q ⌝ }
 {
     let rows = slots.len();
-    if !short_enough(rows, labels, forward, reverse, forward_seen, reverse_seen) {
+    let short = competition::table_short(forward, reverse, forward_seen, reverse_seen);
+    if !short_enough(rows, labels, short) {
         return Outcome::Refused(Refusal::TooLong);
     }
-    let table = table_fits(forward, reverse, forward_seen, reverse_seen);
-    if !one_per_row(rows, labels, q, table, two_per_slot(forward, keys, spare)) {
+    let table = competition::table_fits(forward, reverse, forward_seen, reverse_seen);
+    if !one_per_row(
+        rows,
+        labels,
+        q,
+        table,
+        two_per_slot(forward.len(), keys, spare),
+    ) {
         return Outcome::Refused(Refusal::WrongLength);
     }
-    if !in_range(bins) {
+    if !kde::in_range(bins) {
         return Outcome::Refused(Refusal::OutOfRange);
     }
-    if !competition::slots_allowed(slots, forward) {
+    if !competition::slots_allowed(slots, forward.len()) {
         return Outcome::Refused(Refusal::NoSuchSlot);
     }
     Outcome::Accepted
@@ -348,10 +330,10 @@ pub fn assign_q_value(
 {
     match ask(
         bins.len(),
-        forward.len(),
-        reverse.len(),
-        forward_seen.len(),
-        reverse_seen.len(),
+        forward,
+        reverse,
+        forward_seen,
+        reverse_seen,
         slots,
         labels.len(),
         keys.len(),

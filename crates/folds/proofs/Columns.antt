@@ -3,11 +3,14 @@ use mathlib.Core.Path.{_≡_, refl, sym, ap, _∙_, subst}
 use mathlib.Core.Logic.{_⊎_, inl, inr}
 use mathlib.Core.List.{List, [], _∷_, _++_, append-assoc}
 use Prim.Native.Nat.{ℕ, zero, suc, _+_, _≤_, _<_, zero-le}
-use native.Mathlib.Nat.{not-suc-le-zero, le-of-suc-le-suc, lt-of-lt-of-le, ne-of-lt, zero-add, add-comm, add-suc, suc-add}
+use native.Mathlib.Nat.{not-suc-le-zero, le-of-suc-le-suc, lt-of-lt-of-le, ne-of-lt, ne-of-gt, le-refl, zero-add, add-comm, add-suc, suc-add}
 use native.Mathlib.Numerals.{add-one}
 use native.Mathlib.Omega.{arith}
+use mathlib.Core.Bool.{cond}
+use lib.Dec.{ltb}
 use lib.ListN.{length, take, drop, set, getD, replicate, length-set}
 use lib.Seq.{take-suc-set, getD-set-same, getD-set-other, ext-getD}
+use borrow.Author.Tests.{lt-ltb, le-ltb}
 use Rattle.folds.proofs.Tests.{lt-or-ge}
 use Rattle.folds.specs.Columns.{filled, tabulated}
 
@@ -48,6 +51,10 @@ filling-done {A} {v} {column₀} {column} {i} w h =
     let e : i ≡ length column₀ = omega arith in
     w .is ∙ ap (λ (n : ℕ). replicate n v ++ drop n column₀) e ∙ all-filled v column₀
 
+-- columns of one length have one blank
+pub same-blank : {A : Type 0} (v : A) (c d : List A) → length c ≡ length d → filled v c ≡ filled v d
+same-blank v c d e = ap (λ (n : ℕ). replicate n v) e
+
 module _ {A : Type 0} where
   -- ---- a store at the front's end
 
@@ -69,6 +76,54 @@ getD-tabulated-from f a (suc k) (suc i) d h = getD-tabulated-from f (suc a) k i 
 
 pub getD-tabulated : {A : Type 0} (f : ℕ → A) (a k i : ℕ) (d : A) → i < k → getD (tabulated f a k) i d ≡ f (a + i)
 getD-tabulated f a k i d h = getD-tabulated-from f a k i d h ∙ ap f (add-comm i a)
+
+tabulated-from : {A : Type 0} {f g : ℕ → A} (a k : ℕ) → ((i : ℕ) → a ≤ i → i < a + k → f i ≡ g i) → tabulated f a k ≡ tabulated g a k
+unfolding tabulated
+tabulated-from a zero e = refl
+tabulated-from {A} {f} {g} a (suc k) e =
+    rw (e a (le-refl a) (omega arith)) (ap (λ (l : List A). g a ∷ l) (tabulated-from (suc a) k (λ i l u. e i (omega arith) (omega arith))))
+
+pub tabulated-same : {A : Type 0} {f g : ℕ → A} (n : ℕ) → ((i : ℕ) → i < n → f i ≡ g i) → tabulated f 0 n ≡ tabulated g 0 n
+tabulated-same n e = tabulated-from 0 n (λ i l u. e i (omega arith))
+
+pub tabulated-at : {A : Type 0} (f : ℕ → A) (n i : ℕ) (d : A) → i < n → getD (tabulated f 0 n) i d ≡ f i
+tabulated-at f n i d h = getD-tabulated f 0 n i d h ∙ ap f (zero-add i)
+
+-- one entry stored
+pub tabulated-set : {A : Type 0} (f : ℕ → A) (n c : ℕ) (v d : A) {t : ℕ → A} → c < n → t c ≡ v → ((i : ℕ) → i < n → (i ≡ c → ⊥) → t i ≡ f i)
+    → set (tabulated f 0 n) c v ≡ tabulated t 0 n
+tabulated-set {A} f n c v d {t} h e o =
+    ext-getD d (set (tabulated f 0 n) c v) (tabulated t 0 n) same (λ i l. at i (subst (λ (m : ℕ). i < m) long l) (lt-or-ge i c) (lt-or-ge c i))
+  where
+    long : length (set (tabulated f 0 n) c v) ≡ n
+    long = length-set (tabulated f 0 n) c v ∙ length-tabulated f 0 n
+
+    same : length (set (tabulated f 0 n) c v) ≡ length (tabulated t 0 n)
+    same = long ∙ sym (length-tabulated t 0 n)
+
+    inside : c < length (tabulated f 0 n)
+    inside = subst (λ (m : ℕ). c < m) (sym (length-tabulated f 0 n)) h
+
+    other : (i : ℕ) → i < n → (i ≡ c → ⊥) → getD (set (tabulated f 0 n) c v) i d ≡ getD (tabulated t 0 n) i d
+    other i l p = getD-set-other (tabulated f 0 n) c i v d p ∙ tabulated-at f n i d l ∙ sym (o i l p) ∙ sym (tabulated-at t n i d l)
+
+    at : (i : ℕ) → i < n → (i < c) ⊎ (c ≤ i) → (c < i) ⊎ (i ≤ c) → getD (set (tabulated f 0 n) c v) i d ≡ getD (tabulated t 0 n) i d
+    at i l (inl p) q = other i l (ne-of-lt p)
+    at i l (inr p) (inl q) = other i l (ne-of-gt q)
+    at i l (inr p) (inr q) =
+        let z : i ≡ c = omega arith in
+        ap (λ (m : ℕ). getD (set (tabulated f 0 n) c v) m d) z ∙ getD-set-same (tabulated f 0 n) c v d inside ∙ sym e ∙ ap t (sym z)
+        ∙ sym (tabulated-at t n i d l)
+
+pub tabulated-constant : {A : Type 0} (f : ℕ → A) (v : A) → ((i : ℕ) → f i ≡ v) → (a k : ℕ) → tabulated f a k ≡ replicate k v
+unfolding tabulated
+tabulated-constant f v h a zero = refl
+tabulated-constant {A} f v h a (suc k) = rw (h a, tabulated-constant f v h (suc a) k)
+
+pub getD-constant : {A : Type 0} (n i : ℕ) (v : A) → getD (replicate n v) i v ≡ v
+getD-constant zero i v = refl
+getD-constant (suc n) zero v = refl
+getD-constant (suc n) (suc i) v = getD-constant n i v
 
 -- ---- written from the front with f of each place: the first i of n places are
 
@@ -103,3 +158,43 @@ writing-done {A} {f} {d} {n} {column} {i} w h =
     (λ (k : ℕ) (l : k < length column).
     let g : k < n = subst (λ (m : ℕ). k < m) (w .same) l in
     w .is k (lt-of-lt-of-le g h) ∙ ap f (sym (zero-add k)) ∙ sym (getD-tabulated f 0 n k d g))
+
+-- ---- entries rewritten from the front, up to a width
+
+pub record Rewriting {A : Type 0} (old new : ℕ → A) (d : A) (n : ℕ) (column : List A) (i : ℕ) : Type 0 where
+  pub same : length column ≡ n
+  pub before : (k : ℕ) → k < i → getD column k d ≡ new k
+  pub after : (k : ℕ) → i ≤ k → getD column k d ≡ old k
+
+pub rewriting-start : {A : Type 0} {new : ℕ → A} {d : A} {n : ℕ} (column : List A) → length column ≡ n → Rewriting (λ k. getD column k d) new d n column 0
+rewriting-start column e = record { same = e; before = λ k h. absurd (not-suc-le-zero h); after = λ k h. refl }
+
+pub rewriting-step : {A : Type 0} {old new : ℕ → A} {d : A} {n : ℕ} {column : List A} {i : ℕ} {v : A} → Rewriting old new d n column i → i < n → v ≡ new i
+    → Rewriting old new d n (set column i v) (i + 1)
+rewriting-step {A} {old} {new} {d} {n} {column} {i} {v} w h e = record {
+  same = length-set column i v ∙ w .same;
+  before = λ k l. go k l (lt-or-ge k i);
+  after = λ k l. getD-set-other column i k v d (ne-of-gt (omega arith)) ∙ w .after k (omega arith);
+}
+  where
+    inside : i < length column
+    inside = subst (λ (m : ℕ). i < m) (sym (w .same)) h
+
+    go : (k : ℕ) → k < i + 1 → (k < i) ⊎ (i ≤ k) → getD (set column i v) k d ≡ new k
+    go k l (inl g) = getD-set-other column i k v d (ne-of-lt g) ∙ w .before k g
+    go k l (inr g) =
+        let z : k ≡ i = omega arith in
+        ap (λ (m : ℕ). getD (set column i v) m d) z ∙ getD-set-same column i v d inside ∙ e ∙ ap new (sym z)
+
+pub rewriting-done : {A : Type 0} {old new : ℕ → A} {d : A} {n : ℕ} {column : List A} {i width : ℕ} → Rewriting old new d n column i → i ≤ width → width ≤ i
+    → column ≡ tabulated (λ k. cond (ltb k width) (new k) (old k)) 0 n
+rewriting-done {A} {old} {new} {d} {n} {column} {i} {width} w h l =
+    ext-getD d column (tabulated t 0 n) (w .same ∙ sym (length-tabulated t 0 n))
+    (λ (k : ℕ) (g : k < length column). at k (lt-or-ge k width) ∙ sym (tabulated-at t n k d (subst (λ (m : ℕ). k < m) (w .same) g)))
+  where
+    t : ℕ → A
+    t k = cond (ltb k width) (new k) (old k)
+
+    at : (k : ℕ) → (k < width) ⊎ (width ≤ k) → getD column k d ≡ t k
+    at k (inl g) = w .before k (omega arith) ∙ rw (lt-ltb k width g)
+    at k (inr g) = w .after k (omega arith) ∙ rw (le-ltb k width g)

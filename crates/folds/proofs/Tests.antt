@@ -1,9 +1,10 @@
 -- Tests, which are Bools, and what they say. Assumes nothing.
-use mathlib.Core.Path.{_≡_, refl}
+use mathlib.Core.Path.{_≡_, refl, sym}
 use mathlib.Core.Logic.{_⊎_, inl, inr}
 use Prim.Native.Nat.{ℕ, _≤_, _<_}
-use mathlib.Core.Bool.{Bool, true, false, not, _||_}
-use lib.Dec.{T, ltb, ltb→lt, nltb→le}
+use mathlib.Core.Bool.{Bool, true, false, not, cond, _&&_, _||_, false≢true}
+use lib.Dec.{T, ltb, ltb→lt, nltb→le, lit≤, lit<}
+use mir.Val.{boolByte}
 
 -- equal where each passes if the other does
 pub same-test : (a b : Bool) → (T a → T b) → (T b → T a) → a ≡ b
@@ -34,3 +35,30 @@ lt-or-ge a b = go (ltb a b) (ltb→lt a b) (nltb→le a b)
     go : (t : Bool) → (T t → a < b) → (T (not t) → b ≤ a) → (a < b) ⊎ (b ≤ a)
     go true h k = inl (h tt)
     go false h k = inr (k tt)
+
+pub both : (a b : Bool) → a && b ≡ true → (a ≡ true) × (b ≡ true)
+both true b e = (refl, e)
+both false b e = absurd (false≢true e)
+
+-- a test that was turned round
+pub no-is : (b : Bool) → not b ≡ true → b ≡ false
+no-is true e = sym e
+no-is false e = refl
+
+pub yes-is : (b : Bool) → not b ≡ false → b ≡ true
+yes-is true e = refl
+yes-is false e = sym e
+
+pub no-truth : (b : Bool) → (T b → ⊥) → b ≡ false
+no-truth true h = absurd (h tt)
+no-truth false h = refl
+
+-- ---- a test as a number
+
+pub byte-is : (b : Bool) → boolByte b ≡ cond b 1 0
+byte-is true = refl
+byte-is false = refl
+
+pub byte-most : (b : Bool) → boolByte b ≤ 1
+byte-most true = lit≤ tt
+byte-most false = lit≤ tt

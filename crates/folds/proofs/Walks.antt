@@ -2,14 +2,14 @@
 -- hand, gives what the whole walk gives. A loop opens with `start`, takes a turn by `step`, and ends by `done`. Assumes nothing.
 use mathlib.Core.Path.{_≡_, refl, sym, ap, _∙_, subst}
 use mathlib.Core.Logic.{_⊎_, inl, inr}
-use Prim.Native.Nat.{ℕ, zero, suc, _+_, _-_, _≤_, _<_}
+use Prim.Native.Nat.{ℕ, zero, suc, _+_, _-_, _≤_, _<_, zero-le}
 use native.Mathlib.Nat.{le-refl}
 use native.Mathlib.Numerals.{add-one}
 use native.Mathlib.Omega.{arith}
 use mathlib.Core.Bool.{Bool, true, false, cond}
 use lib.Dec.{T}
 use lib.Ieee.Fits.{and-i, and-l, and-r}
-use Rattle.folds.proofs.Tests.{lt-or-ge}
+use Rattle.folds.proofs.Tests.{lt-or-ge, no-truth}
 use Rattle.folds.specs.Walks.{steps, across, down, first, seek, every}
 
 none-left : (j n : ℕ) → n ≤ j → n - j ≡ 0
@@ -144,3 +144,84 @@ pub every-of : (p : ℕ → Bool) (n : ℕ) → ((i : ℕ) → i < n → T (p i)
 unfolding every
 every-of p zero h = tt
 every-of p (suc n) h = and-i (every p n) (p n) (every-of p n (λ (i : ℕ) (g : i < n). h i (omega arith))) (h n (le-refl (suc n)))
+
+-- ---- up to the first number that fails a test: every number before j passes
+
+pub record Passing (p : ℕ → Bool) (j n : ℕ) : Type 0 where
+  pub high : j ≤ n
+  pub is : every p j ≡ true
+
+pub passing-start : {p : ℕ → Bool} {n : ℕ} → Passing p 0 n
+unfolding every
+passing-start = record { high = zero-le; is = refl }
+
+every-more : (p : ℕ → Bool) (j : ℕ) → every p j ≡ true → p j ≡ true → every p (suc j) ≡ true
+unfolding every
+every-more p j e f = rw (e, f)
+
+pub passing-step : {p : ℕ → Bool} {j n : ℕ} → Passing p j n → j < n → p j ≡ true → Passing p (j + 1) n
+passing-step {p} {j} w h e = record { high = omega arith; is = ap (every p) (add-one j) ∙ every-more p j (w .is) e }
+
+pub passing-done : {p : ℕ → Bool} {j n : ℕ} → Passing p j n → n ≤ j → every p n ≡ true
+passing-done {p} {j} {n} w h =
+    let l = w .high in
+    let e : n ≡ j = omega arith in
+    ap (every p) e ∙ w .is
+
+-- one that fails
+pub failing : (p : ℕ → Bool) {j n : ℕ} → j < n → p j ≡ false → every p n ≡ false
+failing p {j} {n} h e = no-truth (every p n) (λ t. subst T e (every-at p n j t h))
+
+-- ---- the last turn, two walks end to end, and turns that are the same
+
+module _ {S : Type 0} (f : ℕ → S → S) where
+  steps-last : (a k : ℕ) (s : S) → steps f a (suc k) s ≡ f (a + k) (steps f a k s)
+  unfolding steps
+  steps-last a zero s =
+      let e : a ≡ a + 0 = omega arith in
+      ap (λ (i : ℕ). f i s) e
+  steps-last a (suc k) s =
+      let e : suc a + k ≡ a + suc k = omega arith in
+      steps-last (suc a) k (f a s) ∙ ap (λ (i : ℕ). f i (steps f (suc a) k (f a s))) e
+
+  pub across-last : (a b : ℕ) (s : S) → a ≤ b → across f a (b + 1) s ≡ f b (across f a b s)
+  across-last a b s h =
+      let e : b + 1 - a ≡ suc (b - a) = omega arith in
+      let e′ : a + (b - a) ≡ b = omega arith in
+      ap (λ (k : ℕ). steps f a k s) e ∙ steps-last a (b - a) s ∙ ap (λ (i : ℕ). f i (steps f a (b - a) s)) e′
+
+  steps-join : (a k l : ℕ) (s : S) → steps f (a + k) l (steps f a k s) ≡ steps f a (k + l) s
+  unfolding steps
+  steps-join a zero l s =
+      let e : a + 0 ≡ a = omega arith in
+      let e′ : 0 + l ≡ l = omega arith in
+      ap (λ (i : ℕ). steps f i l s) e ∙ ap (λ (k : ℕ). steps f a k s) (sym e′)
+  steps-join a (suc k) l s =
+      let e : a + suc k ≡ suc a + k = omega arith in
+      let e′ : suc k + l ≡ suc (k + l) = omega arith in
+      ap (λ (i : ℕ). steps f i l (steps f (suc a) k (f a s))) e ∙ steps-join (suc a) k l (f a s) ∙ ap (λ (k : ℕ). steps f a k s) (sym e′)
+
+  pub across-join : (a b c : ℕ) (s : S) → a ≤ b → b ≤ c → across f b c (across f a b s) ≡ across f a c s
+  across-join a b c s h l =
+      let e : b ≡ a + (b - a) = omega arith in
+      let e′ : b - a + (c - b) ≡ c - a = omega arith in
+      ap (λ (i : ℕ). steps f i (c - b) (steps f a (b - a) s)) e ∙ steps-join a (b - a) (c - b) s ∙ ap (λ (k : ℕ). steps f a k s) e′
+
+module _ {S : Type 0} {f g : ℕ → S → S} where
+  steps-same : (a k : ℕ) (s : S) → ((i : ℕ) → a ≤ i → i < a + k → (s : S) → f i s ≡ g i s) → steps f a k s ≡ steps g a k s
+  unfolding steps
+  steps-same a zero s e = refl
+  steps-same a (suc k) s e =
+      ap (steps f (suc a) k) (e a (le-refl a) (omega arith) s)
+      ∙ steps-same (suc a) k (g a s) (λ i l u. e i (omega arith) (omega arith))
+
+  pub across-same : (a b : ℕ) (s : S) → ((i : ℕ) → a ≤ i → i < b → (s : S) → f i s ≡ g i s) → across f a b s ≡ across g a b s
+  unfolding steps
+  across-same a b s e = go (lt-or-ge b a)
+    where
+      none : b < a → b - a ≡ 0
+      none h = omega arith
+
+      go : (b < a) ⊎ (a ≤ b) → across f a b s ≡ across g a b s
+      go (inl h) = rw (none h)
+      go (inr h) = steps-same a (b - a) s (λ i l u. e i l (omega arith))

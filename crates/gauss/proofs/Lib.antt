@@ -1,4 +1,3 @@
-pub mod Passing
 pub mod Tables
 pub mod Rows
 pub mod Epsilons

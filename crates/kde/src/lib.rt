@@ -77,7 +77,7 @@ pub enum BinCount {
 }
 
 // Question 3.
-fn in_range(bins: usize) -> bool
+pub fn in_range(bins: usize) -> bool
     ensures { λ r. ⌜ r ≡ inRange bins ⌝ }
 {
     (1 <= bins) & (bins <= MOST_BINS)

@@ -26,7 +26,8 @@ use Rattle.linear_discriminant.specs.declared.Model.{Model}
 use Rattle.linear_discriminant.specs.Rows.{nought, feature}
 use Rattle.linear_discriminant.specs.Fit.{inClass, classCount, asFloat, summed, mean, scatter, within, difference, leftSide, rightSide, trainedOf, modelOf, blankModel, fitted, trained}
 use Rattle.linear_discriminant.specs.Passes.{summedRows, meanOf, tableOf, halfOf, halves, scatterOf, withinRow, withinTable, lessRow, meansOf, fittedWith}
-use Rattle.linear_discriminant.proofs.Turns.{across-same, tabulated-same, tabulated-at}
+use Rattle.folds.proofs.Walks.{across-same}
+use Rattle.folds.proofs.Columns.{tabulated-same, tabulated-at}
 use Rattle.linear_discriminant.proofs.Sums.{classSum, sums-are}
 use Rattle.linear_discriminant.proofs.Scatter.{scatter-is}
 

@@ -1,4 +1,3 @@
-pub mod Turns
 pub mod Halves
 pub mod Piles
 pub mod Classes

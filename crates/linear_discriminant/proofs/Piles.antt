@@ -10,10 +10,10 @@ use lib.ListN.{length, getD, set}
 use lib.Ieee.{Float, nan}
 use Rattle.folds.specs.Walks.{steps, across}
 use Rattle.folds.specs.Columns.{tabulated}
-use Rattle.folds.proofs.Columns.{length-tabulated}
+use Rattle.folds.proofs.Columns.{length-tabulated, tabulated-same, tabulated-at}
 use Rattle.gauss.specs.Elimination.{Table, row, entry}
 use Rattle.linear_discriminant.specs.Passes.{addProductOf, piled, pairAdded, keptAdded, width, tableOf}
-use Rattle.linear_discriminant.proofs.Turns.{across-last, tabulated-same, tabulated-at}
+use Rattle.folds.proofs.Walks.{across-last}
 
 module _ (w : ℕ) (kept : Table) (j start : ℕ) (table : Table) where
   pub length-piled : (g : ℕ) {a : List Float} → a ≡ piled w kept g j start table → length a ≡ 12

@@ -19,7 +19,8 @@ use Rattle.gauss.specs.Elimination.{Row, Table, row, entry}
 use Rattle.linear_discriminant.specs.Rows.{nought, feature}
 use Rattle.linear_discriminant.specs.Fit.{inClass, addTaken, summed, product}
 use Rattle.linear_discriminant.specs.Passes.{centredAt, centredRow, addProductOf, width, columnOf, tableOf, halfOf, placeOf, scatterOf}
-use Rattle.linear_discriminant.proofs.Turns.{across-same, across-join, tabulated-same, tabulated-at}
+use Rattle.folds.proofs.Walks.{across-same, across-join}
+use Rattle.folds.proofs.Columns.{tabulated-same, tabulated-at}
 use Rattle.linear_discriminant.proofs.Halves.{other-has, column-at}
 use Rattle.linear_discriminant.proofs.Piles.{kept-added}
 use Rattle.linear_discriminant.proofs.Slots.{Adds}

@@ -18,7 +18,7 @@ use Rattle.folds.proofs.Tests.{lt-or-ge}
 use Rattle.gauss.specs.Elimination.{Row, Table, row}
 use Rattle.linear_discriminant.specs.Fit.{classOf, inClass}
 use Rattle.linear_discriminant.specs.Passes.{keptAdded}
-use Rattle.linear_discriminant.proofs.Turns.{across-last, across-same}
+use Rattle.folds.proofs.Walks.{across-last, across-same}
 
 -- any step h on the first m kept rows gives what it gives on the rows taken from a up to b
 abbrev pub Same : (ℕ → Bool) → (ℕ → Row) → Table → ℕ → ℕ → ℕ → Type 0

@@ -14,7 +14,8 @@ use Rattle.gauss.specs.Elimination.{Table, row}
 use Rattle.linear_discriminant.specs.Rows.{nought, feature}
 use Rattle.linear_discriminant.specs.Fit.{classOf, inClass, addTaken, summed}
 use Rattle.linear_discriminant.specs.Passes.{addedRow, sumRow, summedRows}
-use Rattle.linear_discriminant.proofs.Turns.{across-last, across-join, tabulated-same, tabulated-at, tabulated-set}
+use Rattle.folds.proofs.Walks.{across-last, across-join}
+use Rattle.folds.proofs.Columns.{tabulated-same, tabulated-at, tabulated-set}
 use Rattle.linear_discriminant.proofs.Classes.{class-small}
 
 module _ (features : List Float) (labels : List ℤ) where

@@ -6,15 +6,12 @@ use lib.Dec.{eqb, lit<}
 use lib.IntN.{ℤ}
 use mir.Syntax.{w32}
 use mir.Val.{SFits, ofZ, boolByte}
+use Rattle.folds.proofs.Tests.{byte-is}
 use Rattle.counting.specs.Labels.{isDecoy}
 use Rattle.counting.proofs.Tally.{label-test}
 
-byte-of : (b : Bool) → boolByte b ≡ cond b 1 0
-byte-of true = refl
-byte-of false = refl
-
 pub decoy-flag : (z : ℤ) → SFits w32 z → boolByte (eqb (ofZ w32 z) 4294967295) ≡ cond (isDecoy z) 1 0
-decoy-flag z f = ap boolByte (label-test z (f .sfits)) ∙ byte-of (isDecoy z)
+decoy-flag z f = ap boolByte (label-test z (f .sfits)) ∙ byte-is (isDecoy z)
 
 pub byte-small : (b : Bool) → boolByte b < 2
 byte-small true = lit< tt

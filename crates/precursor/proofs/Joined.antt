@@ -11,8 +11,9 @@ use lib.Dec.{leb, eqb}
 use lib.IntN.{ℤ, pos, negsuc}
 use lib.ListN.{length, getD, replicate, length-map}
 use lib.Ieee.{Float, nan, binary32}
+use Rattle.folds.proofs.Tests.{both}
 use Rattle.folds.specs.Columns.{filled, tabulated}
-use Rattle.folds.proofs.Columns.{length-tabulated, getD-tabulated}
+use Rattle.folds.proofs.Columns.{length-tabulated, getD-tabulated, tabulated-same, same-blank, tabulated-at}
 use Rattle.floats.specs.Convert.{converted}
 use Rattle.floats.specs.Ratio.{oneIn}
 use Rattle.floats.specs.TotalOrder.{orderKey}
@@ -25,13 +26,13 @@ use Rattle.counting.specs.QValues.{qValues, targetsAtMost}
 use Rattle.counting.proofs.QValues.{same-q, q-length}
 use Rattle.ranking.specs.Ranking.{Row, ranked}
 use Rattle.ranking.specs.Keys.{packed, sorted}
-use Rattle.ranking.proofs.Ranks.{Fitting as Fits, Rising, packedFrom, sorted-ranks}
+use Rattle.ranking.proofs.Ranks.{Fitting as Fits, Rising, packedFrom, sorted-ranks, Each, no-row, one-row, in-list}
 use Rattle.floats.proofs.Narrowed.{converted-fits}
 use Rattle.columns.specs.declared.Outcome.{Outcome}
 use Rattle.columns.specs.declared.Outcome.the-variants as outcome
 use Rattle.precursor.specs.Precursors.{rankedRows, asRanked, rankOf, precursorQ, Fitting, asked, accepts, precursorAnswer, precursorColumn, precursorRanks, ranksAnswer, ranksColumn}
 use Rattle.precursor.specs.Packed.{along, placeOf, labelOf, labelsOf, rowKey, packedRows, packedScores, scattered}
-use Rattle.precursor.proofs.Places.{Each, none, one, Keyed, no-key, key, in-list, length-ranked, has-row, scattered-is}
+use Rattle.precursor.proofs.Places.{Keyed, no-key, key, length-ranked, has-row, scattered-is}
 
 -- the key of a ranked row
 abbrev pub keyOf : List ℤ → Row → ℕ
@@ -66,8 +67,8 @@ key-decoy labels r =
 -- ---- all of them
 
 pub keyed : (labels : List ℤ) {rows : List Row} → Each (λ r. r .place ≤ longest) rows → Keyed (map (keyOf labels) rows) rows
-keyed labels none = no-key
-keyed labels (one {r = r} h w) = key (key-place labels r h) (keyed labels w)
+keyed labels no-row = no-key
+keyed labels (one-row {r = r} h w) = key (key-place labels r h) (keyed labels w)
 
 same-decoys : (labels : List ℤ) (rows : List Row)
     → map isDecoy (map labelOf (map (keyOf labels) rows)) ≡ map isDecoy (map (λ r. getD labels (r .place) (pos 0)) rows)
@@ -76,13 +77,13 @@ same-decoys labels (r ∷ rows) = ap₂ _∷_ (key-decoy labels r) (same-decoys 
 
 pub place-below : (n : ℕ) (labels : List ℤ) {rows : List Row} → n ≤ longest + 1 → Each (λ r. r .place < n) rows → (i : ℕ) → i < length (map (keyOf labels) rows)
     → placeOf (getD (map (keyOf labels) rows) i 0) < n
-place-below n labels l none i h = absurd (not-suc-le-zero h)
-place-below n labels l (one {r = r} g w) zero h = subst (λ (p : ℕ). p < n) (sym (key-place labels r (omega arith))) g
-place-below n labels l (one g w) (suc i) h = place-below n labels l w i (le-of-suc-le-suc h)
+place-below n labels l no-row i h = absurd (not-suc-le-zero h)
+place-below n labels l (one-row {r = r} g w) zero h = subst (λ (p : ℕ). p < n) (sym (key-place labels r (omega arith))) g
+place-below n labels l (one-row g w) (suc i) h = place-below n labels l w i (le-of-suc-le-suc h)
 
 loosen : (n : ℕ) {rows : List Row} → n ≤ longest → Each (λ r. r .place < n) rows → Each (λ r. r .place ≤ longest) rows
-loosen n l none = none
-loosen n l (one {r = r} h w) = let k : r .place ≤ longest = omega arith in one k (loosen n l w)
+loosen n l no-row = no-row
+loosen n l (one-row {r = r} h w) = let k : r .place ≤ longest = omega arith in one-row k (loosen n l w)
 
 -- no label matters but for being a decoy's
 same-count : (c : Float) (ls ls′ : List ℤ) (qs : List Float) → map isDecoy ls ≡ map isDecoy ls′ → targetsAtMost c ls qs ≡ targetsAtMost c ls′ qs
@@ -134,22 +135,6 @@ module _ (labels : List ℤ) (scores : List Float) (same : length scores ≡ len
       ∙ ap (tabulated (λ p. getD Q (rankOf (ranked S) p) nan) 0) as-many
 
 -- ---- what `picked` leaves, from what its calls ensure
-
--- a test that was turned round
-pub no : (b : Bool) → not b ≡ true → b ≡ false
-no true e = sym e
-no false e = refl
-
-pub yes-is : (b : Bool) → not b ≡ false → b ≡ true
-yes-is true e = refl
-yes-is false e = sym e
-
-both : (a b : Bool) → a && b ≡ true → (a ≡ true) × (b ≡ true)
-both true b e = (refl, e)
-both false b e = absurd (false≢true e)
-
-same-blank : (c d : List ℕ) → length c ≡ length d → filled 0 c ≡ filled 0 d
-same-blank c d e = ap (λ (n : ℕ). replicate n 0) e
 
 -- ---- the keys in ascending order are those of the ranked rows
 
@@ -238,18 +223,11 @@ module _ (labels : List ℤ) (scores : List Float) (keys₀ spare₀ : List ℕ)
       d
           ∙ ap (λ (ks : List ℕ). scattered ks (qValues (labelsOf ks)) q₀) now-ranked
           ∙ column-same labels scores (f .scores-fit) (f .short) q₀ (f .q-fit),
-      (k ∙ same-blank keys₂ keys₀ (as-long-as ∙ sym (f .keys-fit)), p ∙ same-blank spare₁ spare₀ l),
+      (k ∙ same-blank 0 keys₂ keys₀ (as-long-as ∙ sym (f .keys-fit)), p ∙ same-blank 0 spare₁ spare₀ l),
     ),
   )
 
 -- ---- the same for ranks
-
-tabulated-same : {A : Type 0} (f g : ℕ → A) (a k : ℕ) → ((i : ℕ) → i < k → f (a + i) ≡ g (a + i)) → tabulated f a k ≡ tabulated g a k
-unfolding tabulated
-tabulated-same f g a zero h = refl
-tabulated-same f g a (suc k) h =
-    ap₂ _∷_ (ap f (sym (add-zero a)) ∙ h 0 (zero-lt-suc k) ∙ ap g (add-zero a))
-    (tabulated-same f g (suc a) k (λ (i : ℕ) (l : i < k). ap f (suc-add a i ∙ sym (add-suc a i)) ∙ h (suc i) (suc-le-suc l) ∙ ap g (add-suc a i ∙ sym (suc-add a i))))
 
 module _ (scores : List Float) (keys₀ spare₀ ranks₀ : List ℕ)
     (f : Fitting (length scores) (length scores) (length keys₀) (length spare₀) (length ranks₀)) (keys₁ : List ℕ) (e₁ : keys₁ ≡ packedScores scores)
@@ -289,17 +267,16 @@ module _ (scores : List Float) (keys₀ spare₀ ranks₀ : List ℕ)
       ∙ ap (λ (ks : List ℕ). scattered ks xs ranks₀) ranked-now
       ∙ scattered-is 0 S (map (keyOf []) (ranked S)) (keyed [] (loosen n (f .short) own-places)) xs ranks₀ (length-tabulated suc 0 n ∙ sym m) (f .q-fit ∙ sym m)
       ∙ ap (tabulated (λ p. getD xs (rankOf (ranked S) p) 0) 0) m
-      ∙ tabulated-same (λ p. getD xs (rankOf (ranked S) p) 0) (λ p. suc (rankOf (ranked S) p)) 0 n
+      ∙ tabulated-same n
       (λ (i : ℕ) (h : i < n).
-      let r : rankOf (ranked S) (0 + i) < n =
-      subst (λ (k : ℕ). rankOf (ranked S) (0 + i) < k) m (has-row S (0 + i) (subst (λ (k : ℕ). 0 + i < k) (sym m) (subst (λ (k : ℕ). k < n) (sym (zero-add i)) h))) in
-      getD-tabulated suc 0 n (rankOf (ranked S) (0 + i)) 0 r ∙ ap suc (zero-add (rankOf (ranked S) (0 + i))))
+      let r : rankOf (ranked S) i < n = subst (λ (k : ℕ). rankOf (ranked S) i < k) m (has-row S i (subst (λ (k : ℕ). i < k) (sym m) h)) in
+      tabulated-at suc n (rankOf (ranked S) i) 0 r)
 
   pub ranks-all : (ranks : List ℕ) → ranks ≡ scattered keys₂ (tabulated suc 0 (length keys₂)) ranks₀ → (spare₁ : List ℕ) → length spare₁ ≡ length spare₀
       → (keys₃ spare₂ : List ℕ) → keys₃ ≡ filled 0 keys₂ → spare₂ ≡ filled 0 spare₁
       → (ranks ≡ precursorRanks scores) × ((keys₃ ≡ filled 0 keys₀) × (spare₂ ≡ filled 0 spare₀))
   ranks-all ranks d spare₁ l keys₃ spare₂ k p =
-      (ranks-same ranks d, (k ∙ same-blank keys₂ keys₀ (as-many-keys ∙ sym (f .keys-fit)), p ∙ same-blank spare₁ spare₀ l))
+      (ranks-same ranks d, (k ∙ same-blank 0 keys₂ keys₀ (as-many-keys ∙ sym (f .keys-fit)), p ∙ same-blank 0 spare₁ spare₀ l))
 
 pub sortable-scores : (scores : List Float) (spare keys₁ : List ℕ) → length spare ≡ length scores → keys₁ ≡ packedScores scores → length spare ≡ length keys₁
 unfolding packedScores

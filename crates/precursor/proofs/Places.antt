@@ -102,29 +102,6 @@ pub has-row : (scores : List Float) (p : ℕ) → p < length scores → rankOf (
 has-row scores p h =
     subst (λ (n : ℕ). rankOf (ranked scores) p < n) (length-ranked 0 scores) (has-row-from 0 scores p zero-le (subst (λ (n : ℕ). p < n) (sym (zero-add (length scores))) h))
 
--- ---- each row has a place
-
-pub data Each (P : Row → Type 0) : List Row → Type 0 where
-  none : Each P []
-  one : {r : Row} {rows : List Row} → P r → Each P rows → Each P (r ∷ rows)
-
-each-inserted : (P : Row → Type 0) (r : Row) {rows : List Row} → P r → Each P rows → Each P (inserted r rows)
-unfolding inserted
-each-inserted P r h none = one h none
-each-inserted P r h (one {r = x} {rows = xs} k w) = go (before (r .score) (x .score)) (each-inserted P r h w)
-  where
-    go : (b : Bool) → Each P (inserted r xs) → Each P (cond b (x ∷ inserted r xs) (r ∷ x ∷ xs))
-    go true v = one k v
-    go false v = one h (one k w)
-
-each-place : (n a : ℕ) (scores : List Float) → a + length scores ≤ n → Each (λ r. r .place < n) (rankedFrom a scores)
-unfolding rankedFrom
-each-place n a [] h = none
-each-place n a (s ∷ ss) h = each-inserted (λ r. r .place < n) (record { score = s; place = a }) (omega arith) (each-place n (suc a) ss (omega arith))
-
-pub in-list : (scores : List Float) → Each (λ r. r .place < length scores) (ranked scores)
-in-list scores = each-place (length scores) 0 scores (omega arith)
-
 -- ---- a column written at the rows' places
 
 length-scattered : {A : Type 0} (keys : List ℕ) (xs column : List A) → length (scattered keys xs column) ≡ length column

@@ -15,6 +15,7 @@ use lib.ListN.{length, getD, take, drop, set, length-map, length-set, List·getD
 use lib.Seq.{drop-cons, take-length, take-all, drop-length}
 use lib.Ieee.{Float, nan, binary32, le, ofBits}
 use mir.Val.{boolByte}
+use Rattle.folds.proofs.Tests.{byte-most}
 use Rattle.floats.specs.Least.{lesser}
 use Rattle.floats.specs.Ratio.{oneIn}
 use Rattle.counting.specs.Labels.{isDecoy, decoys, targets}
@@ -131,10 +132,6 @@ assigned-start keys q₀ decoy e =
   where
     counts : (n decoy d t : ℕ) → decoy ≡ d → d + t ≡ n → n + 1 - (decoy + 1) ≡ t
     counts n decoy d t e both = omega arith
-
-pub byte-most : (b : Bool) → boolByte b ≤ 1
-byte-most true = lit≤ tt
-byte-most false = lit≤ tt
 
 -- a target whose q-value is low enough counts
 pass-one : (k rest : ℕ) (b : Bool) → rest + boolByte (b && eqb (k % 2) 0) ≡ cond (isDecoy (labelOf k)) rest (cond b (suc rest) rest)

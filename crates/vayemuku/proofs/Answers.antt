@@ -46,6 +46,3 @@ module _ (keys spare : List ℕ) where
   pub keys-fine : (k : List ℕ) → length keys ≤ longest → length spare ≡ length keys → k ≡ sorted keys
       → (0 ≡ keysNumber (length keys) (length spare)) × (k ≡ keysColumn keys (length spare))
   keys-fine k s t e = by-tests true true (le-leb (length keys) longest s) (eq-eqb (length spare) (length keys) t) 0 refl k e
-
-pub same-blank : (c d : List ℕ) → length c ≡ length d → filled 0 c ≡ filled 0 d
-same-blank c d e = ap (λ (n : ℕ). replicate n 0) e

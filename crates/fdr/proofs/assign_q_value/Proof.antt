@@ -31,7 +31,7 @@ returns-2 c =
 assigned-requires : tie.Need-assigned-requires
 assigned-requires c κs =
     let s = c .before .before .before .before .before .before .before .before .before .before .before .before .before .before .before in
-    ready (length (s .args .bins .now)) (tableOf (s .args .forward .now) (s .args .reverse .now) (s .args .forward-seen .now) (s .args .reverse-seen .now))
+    ready (tableOf (s .args .forward .now) (s .args .reverse .now) (s .args .forward-seen .now) (s .args .reverse-seen .now)) (length (s .args .bins .now))
     (s .args .slots .now) (length (s .args .labels .now)) (length (s .args .keys .now)) (length (s .args .spare .now)) (length (s .args .q .now))
     (c .before .before .before .before .before .ask .result) (c .before .before .before .before .before .ask .ensures) (c .before .before .before .enum-told .given .1)
 

@@ -2,8 +2,8 @@
 use mathlib.Core.Path.{ap}
 use Prim.Native.Nat.{ℕ, _+_, _*_}
 use native.Mathlib.Omega.{arith}
-use Rattle.fdr.proofs.Keys.{byte-most, byte-is}
 use borrow.Author.Needs.{needs}
+use Rattle.folds.proofs.Tests.{byte-most, byte-is}
 use Rattle.fdr.proofs.name_of.Statement.{statement}
 use Rattle.fdr.proofs.name_of.Tie as tie
 

@@ -2,7 +2,7 @@
 use mathlib.Core.Bool.{not}
 use lib.Dec.{eqb}
 use native.Mathlib.Omega.{arith}
-use Rattle.fdr.proofs.Keys.{byte-most}
+use Rattle.folds.proofs.Tests.{byte-most}
 use Rattle.fdr.proofs.Packing.{put-keeps}
 use borrow.Author.Needs.{needs}
 use Rattle.fdr.proofs.put.Statement.{statement}

@@ -7,8 +7,8 @@ use lib.Dec.{T, eqb}
 use lib.ListN.{getD}
 use lib.Ieee.{binary32, le, ofBits}
 use lib.Ieee.Bits.{nanBits-is}
+use Rattle.folds.proofs.Tests.{byte-most}
 use Rattle.floats.proofs.Ratio.{one-in-100}
-use Rattle.fdr.proofs.Keys.{byte-most}
 use Rattle.fdr.proofs.Minima.{Minima, minima-start, minima-bits, minima-number, minima-step, minima-done}
 use borrow.Author.Needs.{needs}
 use Rattle.fdr.proofs.take_minima.Statement.{statement}

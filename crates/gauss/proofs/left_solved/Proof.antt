@@ -5,7 +5,7 @@ use borrow.Author.Tests.{not-true, not-false}
 use Rattle.gauss.specs.Elimination.{entry, solvedAt, solvedRow, leftSolved}
 use Prim.Native.Nat.{_-_}
 use lib.Dec.{eqb}
-use Rattle.gauss.proofs.Passing.{Passing, passing-start, passing-step, passing-done, failing}
+use Rattle.folds.proofs.Walks.{Passing, passing-start, passing-step, passing-done, failing}
 use borrow.Author.Needs.{needs}
 use Rattle.gauss.proofs.left_solved.Statement.{statement}
 use Rattle.gauss.proofs.left_solved.Tie as tie

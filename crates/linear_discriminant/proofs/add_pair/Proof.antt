@@ -5,10 +5,9 @@ use Prim.Native.Nat.{_+_, _-_, _≤_}
 use lib.ListN.{getD}
 use lib.Ieee.{nan, binary64, add, mul}
 use borrow.Author.Needs.{needs}
-use Rattle.folds.proofs.Columns.{Writing, writing-start, writing-step, writing-done}
+use Rattle.folds.proofs.Columns.{Writing, writing-start, writing-step, writing-done, Rewriting, rewriting-start, rewriting-step, rewriting-done}
 use Rattle.gauss.specs.Elimination.{entry}
 use Rattle.linear_discriminant.specs.Passes.{piled}
-use Rattle.linear_discriminant.proofs.Turns.{Rewriting, rewriting-start, rewriting-step, rewriting-done}
 use Rattle.linear_discriminant.proofs.Piles.{length-piled, piled-none, piled-more, pair-done}
 use Rattle.linear_discriminant.proofs.add_pair.Statement.{statement}
 use Rattle.linear_discriminant.proofs.add_pair.Tie as tie

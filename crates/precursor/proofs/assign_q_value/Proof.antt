@@ -7,8 +7,9 @@ use borrow.Author.Needs.{needs}
 use lib.Dec.{eqb, le→leb}
 use lib.ListN.{length, getD}
 use lib.Ieee.{binary32, inFloat, le, ofBits}
+use Rattle.folds.proofs.Tests.{byte-most}
 use Rattle.floats.proofs.Ratio.{one-in-20}
-use Rattle.precursor.proofs.Unpacked.{Assigned, assigned-start, assigned-step, assigned-done, all-counts, target-left, byte-most}
+use Rattle.precursor.proofs.Unpacked.{Assigned, assigned-start, assigned-step, assigned-done, all-counts, target-left}
 use Rattle.precursor.proofs.assign_q_value.Statement.{statement}
 use Rattle.precursor.proofs.assign_q_value.Tie as tie
 

@@ -1,7 +1,8 @@
 -- `vayemuku::vayemuku_rank_keys` meets its contract: each way out is what its questions and its calls say. Assumes nothing.
 use mathlib.Core.Path.{_∙_}
 use borrow.Author.Needs.{needs}
-use Rattle.vayemuku.proofs.Answers.{keys-too-long, keys-wrong, keys-fine, same-blank}
+use Rattle.folds.proofs.Columns.{same-blank}
+use Rattle.vayemuku.proofs.Answers.{keys-too-long, keys-wrong, keys-fine}
 use Rattle.vayemuku.proofs.vayemuku_rank_keys.Statement.{statement}
 use Rattle.vayemuku.proofs.vayemuku_rank_keys.Tie as tie
 
@@ -18,7 +19,7 @@ returns-2 c =
 returns-3 : tie.Need-returns-3
 returns-3 c =
     let told = keys-fine (c .before .before .before .before .before .before .before .before .before .before .before .before .before .before .before .args .keys .now) (c .before .before .before .before .before .before .before .before .before .before .before .before .before .before .before .args .spare .now) _ (c .before .before .before .before .before .before .before .before .before .before .before .before .if1 .left) (c .before .before .before .before .before .before .before .before .before .before .before .if2 .left) (c .before .before .before .before .before .before .before .before .sort .ensures .0) in
-    (told .0, (told .1, c .before .before .fill-u645 .ensures ∙ same-blank (c .before .before .before .before .before .before .before .before .sort .last .1 .0) (c .before .before .before .before .before .before .before .before .before .before .before .before .before .before .before .args .spare .now) (c .before .before .before .before .before .before .before .before .sort .ensures .1)))
+    (told .0, (told .1, c .before .before .fill-u645 .ensures ∙ same-blank 0 (c .before .before .before .before .before .before .before .before .sort .last .1 .0) (c .before .before .before .before .before .before .before .before .before .before .before .before .before .before .before .args .spare .now) (c .before .before .before .before .before .before .before .before .sort .ensures .1)))
 
 pub vayemuku-rank-keys-spec : {M : Type 1} → statement M
 vayemuku-rank-keys-spec =
