@@ -1,5 +1,5 @@
 -- The table of known points, by computation, and by the points of `gauss`, `kde`, `competition` and `fdr`. Assumes nothing.
-use mathlib.Core.Path.{_≡_, refl}
+use mathlib.Core.Path.{refl}
 use lib.Ieee.{nan, ofBits, ofInt, div, lt, le, round}
 use Rattle.folds.specs.Columns.{tabulated}
 use Rattle.floats.specs.Least.{lesser}

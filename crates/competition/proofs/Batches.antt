@@ -3,7 +3,7 @@
 use mathlib.Core.Path.{_≡_, refl, sym, ap, subst, _∙_}
 use mathlib.Core.List.{List, [], _∷_, _++_}
 use mathlib.Core.Bool.{Bool, true, false, not, cond}
-use Prim.Native.Nat.{ℕ, suc, _+_, _≤_}
+use Prim.Native.Nat.{ℕ, suc, _≤_}
 use native.Mathlib.Omega.{arith}
 use borrow.Author.Tests.{ne-eqb}
 use lib.Dec.{T}
@@ -19,7 +19,7 @@ use Rattle.floats.proofs.Order.{greater-nan, eq→le, le-refl}
 use Rattle.columns.specs.Refusals.{longest}
 use Rattle.columns.specs.declared.Outcome.the-variants.{Accepted}
 use Rattle.counting.specs.Labels.{isDecoy}
-use Rattle.competition.specs.Tables.{Table, tableOf, lowest, noPart, accepted, freshAnswer, freshTable, allAllowed, withRow, added, addAnswer, addedTable}
+use Rattle.competition.specs.Tables.{Table, tableOf, lowest, noPart, freshAnswer, freshTable, allAllowed, withRow, added, addAnswer, addedTable}
 use Rattle.competition.specs.Winners.{slotSeen, decoyFlag, winnerScores, winnerDecoys}
 use Rattle.competition.proofs.Rows.{SameLengths}
 use Rattle.competition.proofs.Accepting.{accepting, accepted-when, table-of-accepted, all-allowed-joined, batch-lengths, same-lengths-or, answer-by-lengths, KeepsSeen, batch-keeps, keeps-or, unseen-scores, unseen-decoys}

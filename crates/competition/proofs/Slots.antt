@@ -1,7 +1,7 @@
 -- Question 5, asked of one slot after the other. Assumes nothing.
 use mathlib.Core.Path.{_≡_, refl, sym, ap, _∙_}
 use mathlib.Core.List.{List}
-use mathlib.Core.Bool.{Bool, true, false, _&&_, and-assoc, and-true, false≢true}
+use mathlib.Core.Bool.{Bool, true, _&&_, and-assoc, and-true}
 use Prim.Native.Nat.{ℕ, suc, _+_, _≤_, _<_, zero-le}
 use native.Mathlib.Numerals.{add-one}
 use native.Mathlib.Omega.{arith}

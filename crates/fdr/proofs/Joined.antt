@@ -3,12 +3,12 @@
 use mathlib.Core.Path.{_≡_, refl, sym, ap, ap₂, _∙_, subst}
 use mathlib.Core.List.{List, [], _∷_, _++_, map}
 use mathlib.Core.Bool.{Bool, true, false, cond}
-use Prim.Native.Nat.{ℕ, zero, suc, _+_, _*_, _/_, _%_, _≤_, _<_, suc-le-suc}
-use native.Mathlib.Nat.{zero-lt-suc, add-zero, add-suc, suc-add, le-trans}
+use Prim.Native.Nat.{ℕ, _+_, _*_, _/_, _%_, _≤_, _<_}
+use native.Mathlib.Nat.{le-trans}
 use native.Mathlib.Omega.{arith}
 use lib.Dec.{T, eqb}
 use lib.IntN.{ℤ, pos}
-use lib.ListN.{length, getD, take, drop, replicate, length-map, length-replicate, getD-replicate}
+use lib.ListN.{length, getD, take, drop, length-map, length-replicate, getD-replicate}
 use lib.Seq.{take-at, length-take-le, length-front}
 use lib.Ieee.{Float, nan, binary32, fits, ofBits}
 use Rattle.folds.proofs.Columns.{tabulated-same, same-blank}

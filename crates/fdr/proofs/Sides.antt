@@ -9,11 +9,11 @@ use native.Mathlib.Nat.{not-suc-le-zero, le-of-suc-le-suc, le-trans, zero-lt-suc
 use native.Mathlib.Omega.{arith}
 use lib.Dec.{T, eqb, lit<}
 use lib.ListN.{length, getD, length-map}
-use lib.Ieee.{Float, nan, binary32, fits}
-use Rattle.floats.specs.TotalOrder.{before, orderKey}
+use lib.Ieee.{nan, binary32, fits}
+use Rattle.floats.specs.TotalOrder.{orderKey}
 use Rattle.folds.proofs.Tests.{lt-or-ge}
 use Rattle.columns.specs.Refusals.{longest}
-use Rattle.ranking.specs.Ranking.{Row, inserted, rankedFrom, ranked}
+use Rattle.ranking.specs.Ranking.{Row, ranked}
 use Rattle.ranking.specs.Keys.{insert, sorted, packed}
 use Rattle.ranking.proofs.Sorting.{insert-here, insert-past}
 use Rattle.ranking.proofs.Ranks.{Fitting, Rising, packedFrom, sorted-ranks, unpacked, Each, no-row, one-row, in-list}

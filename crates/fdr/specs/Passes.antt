@@ -1,20 +1,16 @@
 -- What the working columns carry from pass to pass, and what each pass asks. None of this is seen from outside.
 use mathlib.Core.Path.{_≡_}
 use mathlib.Core.List.{List, [], _∷_, map}
-use mathlib.Core.Bool.{true, not, cond, _&&_}
+use mathlib.Core.Bool.{true, not, cond}
 use Prim.Native.Nat.{ℕ, _+_, _-_, _*_, _/_, _%_, _≤_, _<_}
-use lib.Dec.{T, leb, eqb}
+use lib.Dec.{T, eqb}
 use lib.IntN.{ℤ, pos, negsuc}
 use lib.ListN.{length, getD, set}
 use lib.Ieee.{Float, nan, binary32, isNan, ofBits, toBits}
 use Rattle.floats.specs.Least.{lesser}
 use Rattle.columns.specs.Refusals.{longest}
-use Rattle.columns.specs.declared.Outcome.{Outcome}
-use Rattle.columns.specs.declared.Outcome.the-variants.{Accepted, Refused}
-use Rattle.columns.specs.declared.Refusal.the-variants.{TooLong, WrongLength, OutOfRange, NoSuchSlot}
 use Rattle.counting.specs.Labels.{isDecoy}
 use Rattle.ranking.specs.Keys.{packed}
-use Rattle.kde.specs.Answers.{inRange}
 use Rattle.kde.specs.declared.Estimator.{Estimator}
 use Rattle.competition.specs.Tables.{Table, noPart, allAllowed}
 use Rattle.fdr.specs.declared.Names.{Names}

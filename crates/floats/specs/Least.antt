@@ -1,6 +1,6 @@
 -- The lesser and the greater of two floats. Document 01, module 1: "f32 and f64 min and max that ignore a NaN", and "When both
 -- zeros meet in min or max, the port keeps the accumulated one": the first argument.
-use mathlib.Core.Bool.{Bool, cond}
+use mathlib.Core.Bool.{cond}
 use lib.Ieee.{Float, nan, inf, fin, lt}
 
 -- the other where one is a NaN; the second where it is less; and the first

@@ -3,7 +3,7 @@ use mathlib.Core.Path.{_≡_, refl, sym}
 use mathlib.Core.Logic.{_⊎_, inl, inr}
 use Prim.Native.Nat.{ℕ, _≤_, _<_}
 use mathlib.Core.Bool.{Bool, true, false, not, cond, _&&_, _||_, false≢true}
-use lib.Dec.{T, ltb, ltb→lt, nltb→le, lit≤, lit<}
+use lib.Dec.{T, ltb, ltb→lt, nltb→le, lit≤}
 use mir.Val.{boolByte}
 
 -- equal where each passes if the other does

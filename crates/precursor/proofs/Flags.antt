@@ -1,5 +1,5 @@
 -- The test for a decoy, as the machine makes it on 32 bits. Assumes nothing.
-use mathlib.Core.Path.{_≡_, refl, ap, _∙_}
+use mathlib.Core.Path.{_≡_, ap, _∙_}
 use mathlib.Core.Bool.{Bool, true, false, cond}
 use Prim.Native.Nat.{_<_}
 use lib.Dec.{eqb, lit<}

@@ -2,18 +2,18 @@
 -- counts the labels as ranked and writes at the rows' places. Assumes nothing.
 use mathlib.Core.Path.{_≡_, refl, sym, ap, ap₂, _∙_, subst}
 use mathlib.Core.List.{List, [], _∷_, map}
-use mathlib.Core.Bool.{Bool, true, false, not, cond, _&&_, false≢true}
+use mathlib.Core.Bool.{Bool, true, false, cond, _&&_}
 use Prim.Native.Nat.{ℕ, zero, suc, _+_, _-_, _*_, _/_, _%_, _≤_, _<_, suc-le-suc}
 use native.Mathlib.Nat.{not-suc-le-zero, le-of-suc-le-suc, zero-lt-suc, zero-add, add-zero, suc-add, add-suc}
 use native.Mathlib.Omega.{arith}
 use borrow.Author.Tests.{leb-true, eqb-true, le-leb, lt-leb}
 use lib.Dec.{leb, eqb}
 use lib.IntN.{ℤ, pos, negsuc}
-use lib.ListN.{length, getD, replicate, length-map}
+use lib.ListN.{length, getD, length-map}
 use lib.Ieee.{Float, nan, binary32}
 use Rattle.folds.proofs.Tests.{both}
 use Rattle.folds.specs.Columns.{filled, tabulated}
-use Rattle.folds.proofs.Columns.{length-tabulated, getD-tabulated, tabulated-same, same-blank, tabulated-at}
+use Rattle.folds.proofs.Columns.{length-tabulated, tabulated-same, same-blank, tabulated-at}
 use Rattle.floats.specs.Convert.{converted}
 use Rattle.floats.specs.Ratio.{oneIn}
 use Rattle.floats.specs.TotalOrder.{orderKey}

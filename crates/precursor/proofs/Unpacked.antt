@@ -9,7 +9,7 @@ use native.Mathlib.Nat.{le-refl, add-zero, eq-zero-or-pos}
 use native.Mathlib.Numerals.{add-one}
 use native.Mathlib.Omega.{arith}
 use borrow.Author.Tests.{eqb-true, eqb-false, eq-eqb, ne-eqb}
-use lib.Dec.{eqb, lit≤}
+use lib.Dec.{eqb}
 use lib.IntN.{ℤ, pos, negsuc}
 use lib.ListN.{length, getD, take, drop, set, length-map, length-set, List·getD-map}
 use lib.Seq.{drop-cons, take-length, take-all, drop-length}

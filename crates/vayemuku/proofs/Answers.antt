@@ -5,7 +5,7 @@ use mathlib.Core.Bool.{Bool, true, false, cond}
 use Prim.Native.Nat.{ℕ, _≤_, _<_}
 use borrow.Author.Tests.{le-leb, lt-leb, eq-eqb, ne-eqb}
 use lib.Dec.{leb, eqb}
-use lib.ListN.{length, replicate}
+use lib.ListN.{length}
 use Rattle.folds.specs.Columns.{filled}
 use Rattle.columns.specs.Refusals.{longest}
 use Rattle.ranking.specs.Keys.{sorted}

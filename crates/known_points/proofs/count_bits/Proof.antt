@@ -1,6 +1,5 @@
 -- `known_points::count_bits` is safe: the count is at most the entries so far. Assumes nothing.
 use Prim.Native.Nat.{_-_, _≤_}
-use native.Mathlib.Omega.{arith}
 use lib.Dec.{eqb}
 use lib.ListN.{length}
 use borrow.Author.Needs.{needs}
