@@ -134,6 +134,21 @@ fn no_stored_score_is_carried_over_or_looked_at() {
 }
 
 #[test]
+fn columns_are_found_by_their_names() {
+    let folder = Folder::new("columns");
+    let sample = folder.sample(600);
+    let (_, list) = rescored(&folder, &sample, "");
+    let (ran, other) = rescored(&folder, &sample.reversed(), "");
+    assert_eq!(ran.status, Some(0), "{}", ran.stderr);
+    assert_eq!(other.0[0][0], "ms2_intensity");
+    for column in &list.0[0] {
+        assert_eq!(other.column(column), list.column(column), "{column}");
+    }
+    // without --batch the batch is the file's name
+    assert!(list.column("batch").iter().all(|cell| *cell == "in"));
+}
+
+#[test]
 fn every_refusal_leaves_the_fresh_columns_empty() {
     let folder = Folder::new("refusals");
     let sample = folder.sample(400);
@@ -217,6 +232,8 @@ fn proteins_compete_with_their_decoys() {
     // decoys with names of their own do not compete with targets
     let (ran, apart) = rescored(&folder, &sample, "--fasta-decoys");
     assert_eq!(ran.status, Some(0));
+    let names: std::collections::HashSet<_> = seen.into_keys().collect();
+    assert!(ran.stdout.contains(&format!(" targets of {} names have a q-value", names.len())), "{}", ran.stdout);
     assert_ne!(apart.column("protein_q"), list.column("protein_q"));
     assert_eq!(apart.column("spectrum_q"), list.column("spectrum_q"));
 }
