@@ -26,7 +26,7 @@ impl Table {
     }
 
     /// The table of a text.
-    fn from_text(name: String, text: Vec<u8>) -> Result<Table, Problem> {
+    pub fn from_text(name: String, text: Vec<u8>) -> Result<Table, Problem> {
         if text.is_empty() {
             return Err(Problem::with_file(&name, "the header (line 1): the file is empty"));
         }
