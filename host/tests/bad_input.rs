@@ -178,6 +178,14 @@ fn lines_with_windows_ends() {
 }
 
 #[test]
+fn a_byte_order_mark() {
+    let folder = Folder::new("mark");
+    let line = "in.tsv: the header (line 1): the file begins with a byte order mark: take it out, as by tail -c +4";
+    rescore_fails(&folder, format!("\u{feff}{}", folder.sample(5).text()), line);
+    check_fails(&folder, format!("\u{feff}{LIST}"), line);
+}
+
+#[test]
 fn rows_that_are_too_short_too_long_or_empty() {
     let folder = Folder::new("cells");
     let sample = folder.sample(5);
@@ -195,7 +203,7 @@ fn rows_that_are_too_short_too_long_or_empty() {
 fn a_column_that_is_there_twice() {
     let folder = Folder::new("twice");
     let text = folder.sample(5).text().replacen("psm_id", "rank", 1);
-    rescore_fails(&folder, text, "in.tsv: the header (line 1): column rank is there twice");
+    rescore_fails(&folder, text, "in.tsv: the header (line 1): column 'rank' is there twice");
 }
 
 #[test]
