@@ -39,6 +39,8 @@ fn refuses(folder: &Folder, table: &Cells, options: &str, why: &str) {
     for column in FRESH {
         assert!(list.column(column).iter().all(|cell| cell.is_empty()), "{column}");
     }
+    assert!(list.column("rescored_on").iter().all(|cell| cell.len() == "2026-01-31".len()));
+    assert!(list.column("batch").iter().all(|cell| *cell == "in"));
     assert_eq!(kept(&list), kept(table));
     assert_eq!(folder.files(), ["in.tsv", "out.tsv"]);
 }

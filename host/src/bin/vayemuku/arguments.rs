@@ -23,7 +23,7 @@ vayemuku check LIST.tsv --line N [--rate 100|20]
 vayemuku help | version
 
 Status: 0 all is well; 1 the line or the q-values are wrong; 2 the command line means nothing; 3 a file cannot be read
-or written, or holds what it should not: nothing was written; 4 a call refused: a list was written with every fresh
+or written, or holds what it should not: no list was written; 4 a call refused: a list was written with every fresh
 column empty (rescore), or the line is past the list (check).";
 
 /// What the program is asked to do.
