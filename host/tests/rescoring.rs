@@ -93,7 +93,7 @@ fn the_list_holds_every_row_ranked_with_its_q_value() {
 
     let scores: Vec<f32> = list.numbers("sage_discriminant_score");
     assert!(scores.windows(2).all(|pair| pair[0] >= pair[1]));
-    // rows that are equal as f32 stand in the order of the table
+    // a lesser score has no lesser posterior error
     let errors: Vec<f32> = list.numbers("posterior_error");
     let falls = |place: &usize| scores[*place - 1] > scores[*place] && errors[*place - 1] > errors[*place];
     assert_eq!((1..scores.len()).find(falls), None);
