@@ -22,7 +22,7 @@ lib: ## target/staticlib/libvayemuku.a, to link with include/vayemuku.h
 	rt staticlib vayemuku
 	@echo "target/staticlib/libvayemuku.a, declared by include/vayemuku.h"
 
-host: lib ## the tests and the documents of host/; the C example of README.md, and what it shows of make run
+host: lib ## the tests and the documents of host/; the examples of README.md in C and Rust, and what it shows of make run
 	@command -v cargo >/dev/null || { echo "make: cargo is not on the PATH" >&2; exit 1; }
 	cd host && cargo test --quiet
 	cd host && RUSTDOCFLAGS='-D warnings' cargo doc --quiet --no-deps

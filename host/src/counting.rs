@@ -90,10 +90,16 @@ pub fn ranks(scores: &[f64]) -> Result<Vec<u32>, Refusal> {
     Ok(ranks)
 }
 
-/// Puts keys into ascending order. Refuses with [`Refusal::TooLong`], which leaves 0 in every place.
-pub fn rank_keys(keys: &mut [u64]) -> Result<(), Refusal> {
+/// Keys in ascending order. Refuses with [`Refusal::TooLong`].
+///
+/// ```
+/// assert_eq!(vayemuku::rank_keys(vec![3, 1, 2]), Ok(vec![1, 2, 3]));
+/// ```
+pub fn rank_keys(mut keys: Vec<u64>) -> Result<Vec<u64>, Refusal> {
     let mut spare = vec![0u64; keys.len()];
     let (column, length) = (spare.as_mut_ptr(), spare.len());
     // SAFETY: each length is that of its column.
-    Refusal::from_call(unsafe { call::vayemuku_rank_keys(keys.as_mut_ptr(), keys.len(), column, length) })
+    let number = unsafe { call::vayemuku_rank_keys(keys.as_mut_ptr(), keys.len(), column, length) };
+    Refusal::from_call(number)?;
+    Ok(keys)
 }

@@ -1,7 +1,6 @@
 //! Sage's false-discovery arithmetic, proved: safe calls of libvayemuku.a.
 //!
-//! A column is a slice. A call returns its results, which this call worked out, or a [`Refusal`]: there is no way to read a
-//! result of a call that refused.
+//! A column is a slice. A call returns its results, which this call worked out, or a [`Refusal`].
 //!
 //! ```
 //! use vayemuku::{check_line, spectrum_q_value, Line, Rate};
@@ -13,6 +12,12 @@
 //! assert_eq!(answer.count, 100);
 //! assert!(matches!(check_line(Rate::OneIn100, &labels, answer.count)?, Line::Right(_)));
 //! # Ok::<(), vayemuku::Refusal>(())
+//! ```
+//!
+//! There is no way to read a result of a call that refused. This does not compile:
+//!
+//! ```compile_fail
+//! let count = vayemuku::spectrum_q_value(&[1]).count;
 //! ```
 //!
 //! [`rescoring::rescore`] strings the calls together as sage's score_psms, spectrum_q_value and picked_protein do. What the

@@ -2,6 +2,7 @@
 
 use crate::declared::{vayemuku_check_line_100, vayemuku_check_line_20};
 use crate::Refusal;
+use std::fmt::{Display, Formatter};
 
 /// A rate that a line is drawn at.
 #[derive(Clone, Copy, Debug, PartialEq, Eq)]
@@ -10,6 +11,15 @@ pub enum Rate {
     OneIn100,
     /// 20 times (decoys plus one) is at most the targets.
     OneIn20,
+}
+
+impl Display for Rate {
+    fn fmt(&self, to: &mut Formatter<'_>) -> std::fmt::Result {
+        to.write_str(match self {
+            Rate::OneIn100 => "one in 100",
+            Rate::OneIn20 => "one in 20",
+        })
+    }
 }
 
 /// A row, and what stands up to it, itself included.
@@ -23,6 +33,12 @@ pub struct Counts {
     pub targets: usize,
 }
 
+impl Display for Counts {
+    fn fmt(&self, to: &mut Formatter<'_>) -> std::fmt::Result {
+        write!(to, "row {}, decoys plus one {}, targets {}", self.row, self.decoys_plus_one, self.targets)
+    }
+}
+
 /// The answer to a line.
 #[derive(Clone, Copy, Debug, PartialEq, Eq)]
 pub enum Line {
@@ -30,6 +46,15 @@ pub enum Line {
     Right(Counts),
     /// The line is wrong; the counts are those of the last later row that qualifies or, if none does, its own.
     Wrong(Counts),
+}
+
+impl Display for Line {
+    fn fmt(&self, to: &mut Formatter<'_>) -> std::fmt::Result {
+        match self {
+            Line::Right(counts) => write!(to, "Right: {counts}"),
+            Line::Wrong(counts) => write!(to, "Wrong: {counts}"),
+        }
+    }
 }
 
 /// Whether a line of a ranked list is right: it is 0 or its row qualifies, and no later row does.

@@ -201,12 +201,63 @@ fn slot_estimator(table: &Table, densities: &mut dyn Densities) -> Result<Estima
 #[cfg(test)]
 mod tests {
     use super::*;
+    use crate::kernel::Kernels;
 
     #[test]
     fn slots_are_numbered_as_they_come() {
         let keys: [Option<&[u8]>; 6] = [Some(b"b"), None, Some(b"a"), Some(b"b"), Some(b""), Some(b"a")];
         assert_eq!(slots(&keys), (vec![0, NO_PART, 1, 0, 2, 1], 3));
         assert_eq!(slots(&[None]), (vec![NO_PART], 0));
+    }
+
+    /// Rows that a fit is found for.
+    fn rows() -> Vec<Psm> {
+        let row = |place: u32| {
+            let part = |salt: u32| ((place + 1) * salt % 1009) as f32 / 1009.0;
+            Psm {
+                label: if place % 3 == 0 { -1 } else { 1 },
+                hyperscore: part(577).into(),
+                precursor_ppm: part(389),
+                peptide_len: 8,
+                ..Psm::default()
+            }
+        };
+        (0..60).map(row).collect()
+    }
+
+    /// Densities by sage's kernel, of which one has an entry too few.
+    struct Short {
+        taken: usize,
+        short: usize,
+    }
+
+    impl Densities for Short {
+        fn take(&mut self, what: &str, sample: &[f64], width: f64, places: &[f64]) -> Vec<f64> {
+            self.taken += 1;
+            let places = &places[usize::from(self.taken == self.short)..];
+            Kernels.take(what, sample, width, places)
+        }
+    }
+
+    #[test]
+    fn whichever_call_refuses_there_is_nothing_to_read() {
+        let rows = rows();
+        let names: Vec<String> = (0..rows.len()).map(|row| (row / 4).to_string()).collect();
+        let keys: Vec<Option<&[u8]>> = names.iter().map(|name| Some(name.as_bytes())).collect();
+        let tolerance = Tolerance::Ppm(-10.0, 10.0);
+        let rescored = |rows: &[Psm], tolerance, short| {
+            rescore(rows, &keys[..rows.len()], Names::Two, tolerance, &mut Short { taken: 0, short })
+        };
+        assert!(rescored(&rows, tolerance, 0).is_ok());
+        let refused = |call, refusal| Some(Refused { call, refusal });
+        let percent = rescored(&rows, Tolerance::Pct(-1.0, 1.0), 0).err();
+        assert_eq!(percent, refused("vayemuku_bin_count", Refusal::NoTolerance));
+        assert_eq!(rescored(&rows[..1], tolerance, 0).err(), refused("vayemuku_train", Refusal::OneClass));
+        // the densities of mass errors, of scores, and at last of proteins, when all else is worked out
+        for short in 1..=6 {
+            let call = if short <= 4 { "vayemuku_posterior_bins" } else { "vayemuku_slot_posterior_bins" };
+            assert_eq!(rescored(&rows, tolerance, short).err(), refused(call, Refusal::WrongLength), "{short}");
+        }
     }
 
     #[test]

@@ -2,7 +2,9 @@
 
 mod common;
 
-use common::{Cells, Folder, Ran};
+use common::{program, Cells, Folder, Ran};
+use std::io::Write;
+use std::process::Stdio;
 
 /// The columns of numbers that rescore reads, and what a cell is that holds none.
 const NUMBERS: [(&str, &str); 23] = [
@@ -63,6 +65,16 @@ fn no_such_file() {
     folder.run("rescore none.tsv out.tsv").failed(3, line);
     folder.run("check none.tsv --line 1").failed(3, line);
     assert!(folder.files().is_empty());
+}
+
+#[test]
+fn a_folder_for_a_file() {
+    let folder = Folder::new("a-folder");
+    std::fs::create_dir(folder.path("in.tsv")).unwrap();
+    let line = "in.tsv: Is a directory (os error 21)";
+    folder.run("rescore in.tsv out.tsv").failed(3, line);
+    folder.run("check in.tsv --line 1").failed(3, line);
+    assert_eq!(folder.files(), ["in.tsv"]);
 }
 
 #[test]
@@ -166,6 +178,14 @@ fn lines_with_windows_ends() {
 }
 
 #[test]
+fn a_byte_order_mark() {
+    let folder = Folder::new("mark");
+    let line = "in.tsv: the header (line 1): the file begins with a byte order mark: take it out, as by tail -c +4";
+    rescore_fails(&folder, format!("\u{feff}{}", folder.sample(5).text()), line);
+    check_fails(&folder, format!("\u{feff}{LIST}"), line);
+}
+
+#[test]
 fn rows_that_are_too_short_too_long_or_empty() {
     let folder = Folder::new("cells");
     let sample = folder.sample(5);
@@ -183,7 +203,7 @@ fn rows_that_are_too_short_too_long_or_empty() {
 fn a_column_that_is_there_twice() {
     let folder = Folder::new("twice");
     let text = folder.sample(5).text().replacen("psm_id", "rank", 1);
-    rescore_fails(&folder, text, "in.tsv: the header (line 1): column rank is there twice");
+    rescore_fails(&folder, text, "in.tsv: the header (line 1): column 'rank' is there twice");
 }
 
 #[test]
@@ -209,7 +229,7 @@ fn proteins_that_do_not_go_with_their_labels() {
 fn an_output_that_cannot_be_written() {
     let folder = Folder::new("output");
     folder.write("in.tsv", folder.sample(60).text());
-    let line = "none/out.tsv: No such file or directory (os error 2)";
+    let line = "none/out.tsv: it cannot be written: No such file or directory (os error 2)";
     folder.run("rescore in.tsv none/out.tsv").failed(3, line);
     assert_eq!(folder.files(), ["in.tsv"]);
     folder.write("out.tsv", "an older list\n");
@@ -232,12 +252,60 @@ fn rescored_under_a_limit(folder: &Folder, before: &str) -> Ran {
 fn an_output_that_does_not_become_whole() {
     let folder = Folder::new("not-whole");
     let ran = rescored_under_a_limit(&folder, "trap '' XFSZ;");
-    ran.failed(3, "out.tsv: File too large (os error 27)");
+    ran.failed(3, "out.tsv: it cannot be written: File too large (os error 27)");
     assert_eq!(folder.files(), ["in.tsv"]);
     // a program that is killed cannot clean up, but what it leaves does not have the name
     let ran = rescored_under_a_limit(&folder, "");
     assert_eq!((ran.status, ran.stdout.as_str()), (None, ""));
     assert!(!folder.files().contains(&"out.tsv".to_string()));
+}
+
+#[test]
+fn a_run_that_is_killed_at_its_work_leaves_nothing() {
+    let folder = Folder::new("killed");
+    let mut command = program();
+    let words = ["rescore", "/dev/stdin", "out.tsv"];
+    let mut child = command.current_dir(folder.path("")).args(words).stdin(Stdio::piped()).spawn().unwrap();
+    // more than a pipe holds: once it is written, the program is reading
+    child.stdin.as_mut().unwrap().write_all(&[b'x'; 1 << 20]).unwrap();
+    child.kill().unwrap();
+    assert_eq!(child.wait().unwrap().code(), None);
+    assert!(folder.files().is_empty());
+}
+
+#[test]
+fn what_a_killed_run_left_is_in_no_ones_way() {
+    let folder = Folder::new("left");
+    folder.write("in.tsv", folder.sample(60).text());
+    let ran = folder.run_shell("echo left > .vayemuku-$$.part; exec \"$0\" rescore in.tsv out.tsv");
+    assert_eq!((ran.status, ran.stderr.as_str()), (Some(0), ""));
+    let files = folder.files();
+    assert_eq!(files[1..], ["in.tsv", "out.tsv"]);
+    assert_eq!(folder.read(&files[0]), "left\n");
+}
+
+#[test]
+fn standard_output_that_cannot_be_written() {
+    let folder = Folder::new("full");
+    folder.write("in.tsv", LIST);
+    for words in ["check in.tsv --line 0", "help"] {
+        let ran = folder.run_shell(&format!("exec \"$0\" {words} > /dev/full"));
+        ran.failed(3, "standard output: No space left on device (os error 28)");
+    }
+}
+
+#[test]
+fn help_and_version() {
+    let folder = Folder::new("help");
+    let help = folder.run("help");
+    assert_eq!((help.status, help.stderr.as_str()), (Some(0), ""));
+    for words in ["--help", "-h", "rescore --help", "check list.tsv -h"] {
+        let ran = folder.run(words);
+        assert_eq!((ran.status, ran.stdout.as_str()), (Some(0), help.stdout.as_str()), "{words}");
+    }
+    let options = ["--tolerance", "--batch", "--decoy-tag", "--fasta-decoys", "--progress", "--line", "--rate"];
+    assert!(options.iter().all(|option| help.stdout.contains(option)));
+    assert_eq!(folder.run("--version").stdout, concat!("vayemuku ", env!("CARGO_PKG_VERSION"), "\n"));
 }
 
 #[test]
@@ -249,12 +317,21 @@ fn words_that_mean_nothing() {
     fails("rescore in.tsv", "rescore takes two files, IN.tsv and OUT.tsv");
     fails("rescore in.tsv out.tsv more.tsv", "rescore takes two files, IN.tsv and OUT.tsv");
     fails("rescore in.tsv out.tsv --fast", "there is no option '--fast'");
+    fails("rescore in.tsv -o out.tsv", "there is no option '-o'");
+    fails("rescore in.tsv out/", "'out/' is the name of a folder, and OUT.tsv is a file");
+    fails(
+        "rescore in.tsv out.tsv --decoy-tag rev_ --fasta-decoys",
+        "--decoy-tag is for decoys that sage generates, \
+         --fasta-decoys for others",
+    );
     fails("rescore in.tsv out.tsv --tolerance", "nothing follows --tolerance");
     fails("rescore in.tsv out.tsv --progress --progress", "--progress is given twice");
     for tolerance in ["10", "ppm:10", "ppm:-10:ten", "mass:-10:10", "ppm:-10:inf", "ppm:-10:10:10"] {
         let why = format!("--tolerance takes ppm:LO:HI or da:LO:HI, and not '{tolerance}'");
         fails(&format!("rescore in.tsv out.tsv --tolerance {tolerance}"), &why);
     }
+    let why = "--tolerance takes its low end before its high one, and not 'ppm:10:-10'";
+    fails("rescore in.tsv out.tsv --tolerance ppm:10:-10", why);
     fails("check in.tsv", "check needs --line N");
     fails("check --line 1", "check takes one file, LIST.tsv");
     fails("check in.tsv --line -1", "--line takes a whole number from 0, and '-1' is none");
@@ -262,6 +339,10 @@ fn words_that_mean_nothing() {
     assert_eq!(folder.files(), ["in.tsv"]);
     let none = folder.run_words(&[]);
     none.failed(2, "no command is given; `vayemuku help` tells more");
+    let unnamed = folder.run_words(&["rescore", "in.tsv", ""]);
+    unnamed.failed(2, "the name of a file is empty; `vayemuku help` tells more");
+    let tag = folder.run_words(&["rescore", "in.tsv", "out.tsv", "--decoy-tag", ""]);
+    tag.failed(2, "--decoy-tag is empty; `vayemuku help` tells more");
     let batch = folder.run_words(&["rescore", "in.tsv", "out.tsv", "--batch", "a\tb"]);
     let why = "the batch needs a name without tabs or line ends: give one by --batch NAME";
     batch.failed(2, &format!("{why}; `vayemuku help` tells more"));

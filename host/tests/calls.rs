@@ -36,7 +36,7 @@ fn one_a_list_is_too_long() {
     assert_eq!(ranks(&scores), Err(Refusal::TooLong));
     assert_eq!(Places::new(10, &scores), Err(Refusal::TooLong));
     assert_eq!(log_errors(&scores), Err(Refusal::TooLong));
-    assert_eq!(rank_keys(&mut vec![1; LONGEST + 1]), Err(Refusal::TooLong));
+    assert_eq!(rank_keys(vec![1; LONGEST + 1]), Err(Refusal::TooLong));
     assert_eq!(Table::fresh(LONGEST + 1), Err(Refusal::TooLong));
     assert_eq!(Table::fresh(usize::MAX), Err(Refusal::TooLong));
 }
@@ -152,9 +152,7 @@ fn q_values_and_ranks() {
     assert_eq!(answer.q[..20], [0.05; 20]);
     assert_eq!(answer.q[20], 0.1);
     assert_eq!(ranks(&[1.0, 2.0, 1.0]), Ok(vec![2, 1, 3]));
-    let mut keys = [3, 1, 2];
-    rank_keys(&mut keys).unwrap();
-    assert_eq!(keys, [1, 2, 3]);
+    assert_eq!(rank_keys(vec![3, 1, 2]), Ok(vec![1, 2, 3]));
 }
 
 #[test]

@@ -39,6 +39,8 @@ fn refuses(folder: &Folder, table: &Cells, options: &str, why: &str) {
     for column in FRESH {
         assert!(list.column(column).iter().all(|cell| cell.is_empty()), "{column}");
     }
+    assert!(list.column("rescored_on").iter().all(|cell| cell.len() == "2026-01-31".len()));
+    assert!(list.column("batch").iter().all(|cell| *cell == "in"));
     assert_eq!(kept(&list), kept(table));
     assert_eq!(folder.files(), ["in.tsv", "out.tsv"]);
 }
@@ -91,7 +93,7 @@ fn the_list_holds_every_row_ranked_with_its_q_value() {
 
     let scores: Vec<f32> = list.numbers("sage_discriminant_score");
     assert!(scores.windows(2).all(|pair| pair[0] >= pair[1]));
-    // rows that are equal as f32 stand in the order of the table
+    // a lesser score has no lesser posterior error
     let errors: Vec<f32> = list.numbers("posterior_error");
     let falls = |place: &usize| scores[*place - 1] > scores[*place] && errors[*place - 1] > errors[*place];
     assert_eq!((1..scores.len()).find(falls), None);
@@ -131,6 +133,21 @@ fn no_stored_score_is_carried_over_or_looked_at() {
     let refused = list.with(1, "hyperscore", "inf");
     refuses(&folder, &refused, "", "vayemuku_train refused with 7: no solution of the fit's equations was found");
     assert!(!folder.read("out.tsv").contains(list.column("sage_discriminant_score")[0]));
+}
+
+#[test]
+fn columns_are_found_by_their_names() {
+    let folder = Folder::new("columns");
+    let sample = folder.sample(600);
+    let (_, list) = rescored(&folder, &sample, "");
+    let (ran, other) = rescored(&folder, &sample.reversed(), "");
+    assert_eq!(ran.status, Some(0), "{}", ran.stderr);
+    assert_eq!(other.0[0][0], "ms2_intensity");
+    for column in &list.0[0] {
+        assert_eq!(other.column(column), list.column(column), "{column}");
+    }
+    // without --batch the batch is the file's name
+    assert!(list.column("batch").iter().all(|cell| *cell == "in"));
 }
 
 #[test]
@@ -217,6 +234,8 @@ fn proteins_compete_with_their_decoys() {
     // decoys with names of their own do not compete with targets
     let (ran, apart) = rescored(&folder, &sample, "--fasta-decoys");
     assert_eq!(ran.status, Some(0));
+    let names: std::collections::HashSet<_> = seen.into_keys().collect();
+    assert!(ran.stdout.contains(&format!(" targets of {} names have a q-value", names.len())), "{}", ran.stdout);
     assert_ne!(apart.column("protein_q"), list.column("protein_q"));
     assert_eq!(apart.column("spectrum_q"), list.column("spectrum_q"));
 }

@@ -46,14 +46,19 @@ impl Folder {
         Folder(path)
     }
 
+    /// The path of a file.
+    pub fn path(&self, name: &str) -> PathBuf {
+        self.0.join(name)
+    }
+
     /// Writes a file.
     pub fn write(&self, name: &str, text: impl AsRef<[u8]>) {
-        std::fs::write(self.0.join(name), text).unwrap();
+        std::fs::write(self.path(name), text).unwrap();
     }
 
     /// Reads a file.
     pub fn read(&self, name: &str) -> String {
-        std::fs::read_to_string(self.0.join(name)).unwrap()
+        std::fs::read_to_string(self.path(name)).unwrap()
     }
 
     /// The names of all files, in order.
@@ -66,7 +71,7 @@ impl Folder {
 
     /// Removes a file.
     pub fn remove(&self, name: &str) {
-        std::fs::remove_file(self.0.join(name)).unwrap();
+        std::fs::remove_file(self.path(name)).unwrap();
     }
 
     /// Runs the program in the folder, on words without blanks in them.
@@ -153,6 +158,13 @@ impl Cells {
         let mut cells = self.clone();
         let place = self.place(column);
         cells.0.iter_mut().for_each(|line| drop(line.remove(place)));
+        cells
+    }
+
+    /// The table with its columns from the last to the first.
+    pub fn reversed(&self) -> Cells {
+        let mut cells = self.clone();
+        cells.0.iter_mut().for_each(|line| line.reverse());
         cells
     }
 

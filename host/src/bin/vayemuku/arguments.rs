@@ -23,7 +23,7 @@ vayemuku check LIST.tsv --line N [--rate 100|20]
 vayemuku help | version
 
 Status: 0 all is well; 1 the line or the q-values are wrong; 2 the command line means nothing; 3 a file cannot be read
-or written, or holds what it should not: nothing was written; 4 a call refused: a list was written with every fresh
+or written, or holds what it should not: no list was written; 4 a call refused: a list was written with every fresh
 column empty (rescore), or the line is past the list (check).";
 
 /// What the program is asked to do.
@@ -57,15 +57,17 @@ pub struct Check {
 impl Command {
     /// What the words after the program's name ask for.
     pub fn from_words(words: impl Iterator<Item = OsString>) -> Result<Command, Problem> {
-        let mut words = words;
-        let Some(first) = words.next() else {
+        let words: Vec<OsString> = words.collect();
+        let Some((first, rest)) = words.split_first() else {
             return usage("no command is given");
         };
+        let asks_for_help = rest.iter().any(|word| word == "--help" || word == "-h");
         match first.to_str() {
             Some("help" | "--help" | "-h") => Ok(Command::Help),
             Some("version" | "--version" | "-V") => Ok(Command::Version),
-            Some("rescore") => Ok(Command::Rescore(Rescore::from_words(Words::sorted(words, &RESCORE)?)?)),
-            Some("check") => Ok(Command::Check(Check::from_words(Words::sorted(words, &CHECK)?)?)),
+            Some("rescore" | "check") if asks_for_help => Ok(Command::Help),
+            Some("rescore") => Ok(Command::Rescore(Rescore::from_words(Words::sorted(rest, &RESCORE)?)?)),
+            Some("check") => Ok(Command::Check(Check::from_words(Words::sorted(rest, &CHECK)?)?)),
             _ => usage(format!("there is no command '{}'", first.to_string_lossy())),
         }
     }
@@ -86,12 +88,15 @@ struct Words {
 
 impl Words {
     /// Takes options out of the words.
-    fn sorted(words: impl Iterator<Item = OsString>, known: &[(&'static str, bool)]) -> Result<Words, Problem> {
-        let mut words = words;
+    fn sorted(words: &[OsString], known: &[(&'static str, bool)]) -> Result<Words, Problem> {
+        let mut words = words.iter();
         let mut sorted = Words { files: Vec::new(), options: Vec::new() };
         while let Some(word) = words.next() {
-            let text = word.to_string_lossy().into_owned();
-            if !text.starts_with("--") {
+            let text = word.to_string_lossy();
+            if text.is_empty() {
+                return usage("the name of a file is empty");
+            }
+            if !text.starts_with('-') {
                 sorted.files.push(word.into());
                 continue;
             }
@@ -99,13 +104,13 @@ impl Words {
                 return usage(format!("there is no option '{text}'"));
             };
             let value = match followed {
-                true => words.next().map(OsString::into_string),
-                false => Some(Ok(String::new())),
+                true => words.next().map(|word| word.to_str()),
+                false => Some(Some("")),
             };
             match value {
-                Some(Ok(value)) if sorted.option(name).is_none() => sorted.options.push((name, value)),
-                Some(Ok(_)) => return usage(format!("{name} is given twice")),
-                Some(Err(_)) => return usage(format!("what follows {name} is no text")),
+                Some(Some(value)) if sorted.option(name).is_none() => sorted.options.push((name, value.to_string())),
+                Some(Some(_)) => return usage(format!("{name} is given twice")),
+                Some(None) => return usage(format!("what follows {name} is no text")),
                 None => return usage(format!("nothing follows {name}")),
             }
         }
@@ -124,6 +129,9 @@ impl Rescore {
         let [input, output] = words.files.as_slice() else {
             return usage("rescore takes two files, IN.tsv and OUT.tsv");
         };
+        if output.as_os_str().to_string_lossy().ends_with('/') {
+            return usage(format!("'{}' is the name of a folder, and OUT.tsv is a file", output.display()));
+        }
         let tag = words.option("--decoy-tag");
         let decoys = match (words.option("--fasta-decoys"), tag) {
             (None, None) => Decoys::Generated { tag: "rev_".into() },
@@ -168,19 +176,25 @@ impl Check {
 
 /// A tolerance in words.
 fn tolerance(words: &str) -> Result<Tolerance, Problem> {
-    let end = |word: &str| word.parse::<f32>().ok().filter(|end| end.is_finite());
     let parts: Vec<&str> = words.split(':').collect();
-    let tolerance = match parts.as_slice() {
-        [unit, lo, hi] => match (*unit, end(lo), end(hi)) {
-            ("ppm", Some(lo), Some(hi)) => Some(Tolerance::Ppm(lo, hi)),
-            ("pct", Some(lo), Some(hi)) => Some(Tolerance::Pct(lo, hi)),
-            ("da", Some(lo), Some(hi)) => Some(Tolerance::Da(lo, hi)),
-            _ => None,
-        },
-        _ => None,
+    let end = |part: usize| parts.get(part)?.parse().ok().filter(|end: &f32| end.is_finite());
+    let (Some(lo), Some(hi), 3) = (end(1), end(2), parts.len()) else {
+        return no_tolerance(words);
     };
-    let why = || Problem::Usage(format!("--tolerance takes ppm:LO:HI or da:LO:HI, and not '{words}'"));
-    tolerance.ok_or_else(why)
+    if lo > hi {
+        return usage(format!("--tolerance takes its low end before its high one, and not '{words}'"));
+    }
+    match parts[0] {
+        "ppm" => Ok(Tolerance::Ppm(lo, hi)),
+        "pct" => Ok(Tolerance::Pct(lo, hi)),
+        "da" => Ok(Tolerance::Da(lo, hi)),
+        _ => no_tolerance(words),
+    }
+}
+
+/// That words are no tolerance.
+fn no_tolerance<T>(words: &str) -> Result<T, Problem> {
+    usage(format!("--tolerance takes ppm:LO:HI or da:LO:HI, and not '{words}'"))
 }
 
 /// The batch: the name given, or that of the file.

@@ -4,8 +4,8 @@ use crate::arguments::Check;
 use crate::cells::{number, Label};
 use crate::problem::{say, Problem};
 use crate::table::{place, Table};
-use vayemuku::rescoring::order;
-use vayemuku::{check_line, spectrum_q_value, Line, QValues, Rate, Refusal};
+use vayemuku::rescoring::{order, Refused};
+use vayemuku::{check_line, spectrum_q_value, Line, QValues, Rate};
 
 /// What is read of a list.
 struct Columns {
@@ -18,24 +18,28 @@ struct Columns {
 pub fn run(job: &Check) -> Result<bool, Problem> {
     let table = Table::read(&job.list)?;
     let columns = read(&table)?;
-    let refused = |why: String| Problem::refused(table.name(), why);
-    let order = order(&columns.scores).map_err(|why| refused(why.to_string()))?;
+    let order = order(&columns.scores).map_err(|refused| Problem::refused(table.name(), refused))?;
     let labels: Vec<i32> = order.iter().map(|&row| columns.labels[row]).collect();
+    let line = answer(job, &table, &labels)?;
+    let q = spectrum_q_value(&labels)
+        .map_err(|refusal| Problem::refused(table.name(), Refused { call: "vayemuku_spectrum_q_value", refusal }))?;
+    say(format!("list      {}: {} rows, {}", table.name(), table.rows(), standing(&order)))?;
+    say(format!("line      {} at {} is {line}", job.line, job.rate))?;
+    let wrong = wrong_q_values(&order, &columns, &q);
+    say(format!("q-values  {}", wrong.as_deref().unwrap_or("each is what the counting rule gives")))?;
+    Ok(matches!(line, Line::Right(_)) && wrong.is_none())
+}
+
+/// The answer to the line, of labels as ranked.
+fn answer(job: &Check, table: &Table, labels: &[i32]) -> Result<Line, Problem> {
     let call = match job.rate {
         Rate::OneIn100 => "vayemuku_check_line_100",
         Rate::OneIn20 => "vayemuku_check_line_20",
     };
-    let past = |why: Refusal| {
-        let (line, number, rows) = (job.line, why.number(), table.rows());
-        refused(format!("row {line}: {call} refused with {number}: {why}, which has {rows} rows"))
-    };
-    let line = check_line(job.rate, &labels, job.line).map_err(past)?;
-    let counting = "vayemuku_spectrum_q_value refused with";
-    let q = spectrum_q_value(&labels).map_err(|why| refused(format!("{counting} {}: {why}", why.number())))?;
-    say(format!("list      {}: {} rows, {}", table.name(), table.rows(), standing(&order)));
-    let line_right = report_line(job, line);
-    let q_right = report_q_values(&order, &columns, &q);
-    Ok(line_right && q_right)
+    check_line(job.rate, labels, job.line).map_err(|refusal| {
+        let why = Refused { call, refusal };
+        Problem::refused(table.name(), format!("row {}: {why}, which has {} rows", job.line, table.rows()))
+    })
 }
 
 /// Reads the columns.
@@ -66,38 +70,17 @@ fn standing(order: &[usize]) -> String {
     }
 }
 
-/// Prints the answer to the line; whether it is right.
-fn report_line(job: &Check, line: Line) -> bool {
-    let (word, counts) = match line {
-        Line::Right(counts) => ("Right", counts),
-        Line::Wrong(counts) => ("Wrong", counts),
-    };
-    let rate = match job.rate {
-        Rate::OneIn100 => 100,
-        Rate::OneIn20 => 20,
-    };
-    say(format!(
-        "line      {} at one in {rate} is {word}: row {}, decoys plus one {}, targets {}",
-        job.line, counts.row, counts.decoys_plus_one, counts.targets
-    ));
-    matches!(line, Line::Right(_))
-}
-
-/// Prints whether the list's q-values are those of the counting rule; whether all are.
-fn report_q_values(order: &[usize], columns: &Columns, counted: &QValues) -> bool {
+/// What is wrong with the list's q-values, if they are not those of the counting rule.
+fn wrong_q_values(order: &[usize], columns: &Columns, counted: &QValues) -> Option<String> {
     let differs = |(rank, row): &(usize, usize)| columns.q[*row].to_bits() != counted.q[*rank].to_bits();
     let mut wrong = order.iter().copied().enumerate().filter(differs);
-    let Some((rank, row)) = wrong.next() else {
-        say("q-values  each is what the counting rule gives");
-        return true;
-    };
-    say(format!(
-        "q-values  {} of {} are not what the counting rule gives, the first as ranked in {}: {:?}, and it gives {:?}",
+    let (rank, row) = wrong.next()?;
+    Some(format!(
+        "{} of {} are not what the counting rule gives, the first as ranked in {}: {:?}, and it gives {:?}",
         1 + wrong.count(),
         order.len(),
         place(row + 1),
         columns.q[row],
         counted.q[rank]
-    ));
-    false
+    ))
 }

@@ -20,12 +20,11 @@ use std::process::ExitCode;
 /// Runs a command; Ok tells whether all is as it should be.
 fn run(command: Command) -> Result<bool, Problem> {
     match command {
-        Command::Help => say(HELP),
-        Command::Version => say(concat!("vayemuku ", env!("CARGO_PKG_VERSION"))),
-        Command::Rescore(job) => return rescore::run(&job),
-        Command::Check(job) => return check::run(&job),
+        Command::Help => say(HELP).map(|_| true),
+        Command::Version => say(concat!("vayemuku ", env!("CARGO_PKG_VERSION"))).map(|_| true),
+        Command::Rescore(job) => rescore::run(&job),
+        Command::Check(job) => check::run(&job),
     }
-    Ok(true)
 }
 
 /// Ends with 0 where all is as it should be, 1 where a list or its line is wrong, and otherwise with the problem's status.

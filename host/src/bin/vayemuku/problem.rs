@@ -1,7 +1,7 @@
 //! What goes wrong: a line on standard error, and a status.
 
 use std::fmt::Display;
-use std::io::Write;
+use std::io::{ErrorKind, Write};
 use std::process::ExitCode;
 
 /// Why the program stops.
@@ -46,7 +46,10 @@ fn warn(line: impl Display) {
 }
 
 /// Writes a line on standard output.
-pub fn say(line: impl Display) {
-    // a reader that went away is not a problem
-    let _ = writeln!(std::io::stdout(), "{line}");
+pub fn say(line: impl Display) -> Result<(), Problem> {
+    match writeln!(std::io::stdout(), "{line}") {
+        // a reader that went away is not a problem
+        Err(why) if why.kind() != ErrorKind::BrokenPipe => Err(Problem::with_file("standard output", why)),
+        _ => Ok(()),
+    }
 }

@@ -110,3 +110,42 @@ impl<'a> Cells<'a, '_> {
         Ok((psm, key))
     }
 }
+
+#[cfg(test)]
+mod tests {
+    use super::*;
+
+    #[test]
+    fn each_column_is_read_into_its_field() {
+        // 1 in the first column, 2 in the second, and so on; num_proteins is 1
+        let numbers: Vec<String> = (1..COLUMNS.len()).map(|number| number.to_string()).collect();
+        let text = format!("{}\n{}\t1\n", COLUMNS.join("\t"), numbers.join("\t"));
+        let table = Table::from_text("x.tsv".to_string(), text.into()).ok().unwrap();
+        let psms = read(&table, &Decoys::Fasta, &mut Progress::new(false)).ok().unwrap();
+        let wanted = Psm {
+            rank: 1,
+            label: 2,
+            expmass: 3.0,
+            calcmass: 4.0,
+            charge: 5,
+            peptide_len: 6,
+            missed_cleavages: 7,
+            isotope_error: 8.0,
+            precursor_ppm: 9.0,
+            fragment_ppm: 10.0,
+            hyperscore: 11.0,
+            delta_next: 12.0,
+            delta_best: 13.0,
+            aligned_rt: 14.0,
+            delta_rt_model: 15.0,
+            ion_mobility: 16.0,
+            delta_mobility: 17.0,
+            matched_peaks: 18,
+            longest_b: 19,
+            longest_y: 20,
+            matched_intensity_pct: 21.0,
+            poisson: 22.0,
+        };
+        assert_eq!((psms.rows, psms.keys), (vec![wanted], vec![Some(&b"23"[..])]));
+    }
+}

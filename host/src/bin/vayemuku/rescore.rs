@@ -2,28 +2,30 @@
 
 use crate::arguments::Rescore;
 use crate::date::today;
-use crate::draft::{refuse_existing, Draft};
+use crate::draft::Draft;
 use crate::list::{Failure, List};
 use crate::problem::{say, Problem};
 use crate::progress::Progress;
+use crate::proteins::Decoys;
 use crate::psms::{self, Psms};
 use crate::table::{place, Table};
 use vayemuku::features::FEATURE_NAMES;
 use vayemuku::kernel::Kernel;
 use vayemuku::rescoring::{rescore, Refused, Rescored};
-use vayemuku::{Densities, Line, Psm, Tolerance};
+use vayemuku::{Densities, Line, Psm, Rate, Tolerance};
 
-/// Rescores a table and writes the list.
+/// Rescores a table and writes the list; Ok tells whether its line is right.
 pub fn run(job: &Rescore) -> Result<bool, Problem> {
-    refuse_existing(&job.output)?;
+    // an output that cannot be written is told before the work, and a run that is killed at its work leaves no draft
+    drop(Draft::new(&job.output)?);
     let mut progress = Progress::new(job.progress);
     let table = Table::read(&job.input)?;
     let psms = psms::read(&table, &job.decoys, &mut progress)?;
-    let mut draft = Draft::new(&job.output)?;
     let answer = {
         let mut densities = Watched { progress: &mut progress };
         rescore(&psms.rows, &psms.keys, job.decoys.names(), job.tolerance, &mut densities)
     };
+    let mut draft = Draft::new(&job.output)?;
     let date = today()?;
     let list = List { table: &table, rescored: answer.as_ref().ok(), date: &date, batch: &job.batch };
     match list.write(draft.file(), &mut progress) {
@@ -33,32 +35,28 @@ pub fn run(job: &Rescore) -> Result<bool, Problem> {
     }
     progress.finish();
     match answer {
-        Ok(rescored) => Ok(report(job, &psms, &rescored)),
+        Ok(rescored) => report(job, &psms, &rescored),
         Err(refused) => Err(refusal(job, &table, &psms, refused)),
     }
 }
 
-/// Prints what came out; whether the line is right.
-fn report(job: &Rescore, psms: &Psms, rescored: &Rescored) -> bool {
-    let decoys = psms.rows.iter().filter(|row| row.label == -1).count();
+/// Prints what came out; Ok tells whether the line is right.
+fn report(job: &Rescore, psms: &Psms, rescored: &Rescored) -> Result<bool, Problem> {
     let all = psms.rows.len();
-    let (right, word, counts) = match rescored.line {
-        Line::Right(counts) => (true, "Right", counts),
-        Line::Wrong(counts) => (false, "Wrong", counts),
+    let decoys = psms.rows.iter().filter(|row| row.label == -1).count();
+    let (spectra, proteins) = (rescored.spectra.count, rescored.proteins.count);
+    let slots = match job.decoys {
+        Decoys::Generated { .. } => "pairs",
+        Decoys::Fasta => "names",
     };
-    say(format!("batch     {}", job.batch));
-    say(format!("rows      {all}: {} targets, {decoys} decoys", all - decoys));
-    say(format!("spectra   {} rows, decoys too, have a q-value of at most 0.01", rescored.spectra.count));
-    say(format!(
-        "line      {} at one in 100 is {word}: row {}, decoys plus one {}, targets {}",
-        rescored.spectra.count, counts.row, counts.decoys_plus_one, counts.targets
-    ));
-    say(format!(
-        "proteins  {} targets of {} pairs have a q-value of at most 0.01",
-        rescored.proteins.count, rescored.protein_slots
-    ));
-    say(format!("written   {}", job.output.display()));
-    right
+    say(format!("batch     {}", job.batch))?;
+    say(format!("rows      {all}: {} targets, {decoys} decoys", all - decoys))?;
+    say(format!("spectra   {spectra} rows, decoys too, have a q-value of at most 0.01"))?;
+    say(format!("line      {spectra} at {} is {}", Rate::OneIn100, rescored.line))?;
+    let of_all = format!("{proteins} targets of {} {slots}", rescored.protein_slots);
+    say(format!("proteins  {of_all} have a q-value of at most 0.01"))?;
+    say(format!("written   {}", job.output.display()))?;
+    Ok(matches!(rescored.line, Line::Right(_)))
 }
 
 /// That a call refused, which row may be the cause, and where the list is.

@@ -26,7 +26,7 @@ impl Table {
     }
 
     /// The table of a text.
-    fn from_text(name: String, text: Vec<u8>) -> Result<Table, Problem> {
+    pub fn from_text(name: String, text: Vec<u8>) -> Result<Table, Problem> {
         if text.is_empty() {
             return Err(Problem::with_file(&name, "the header (line 1): the file is empty"));
         }
@@ -46,12 +46,15 @@ impl Table {
         Ok(table)
     }
 
-    /// Refuses a header that names a column twice.
+    /// Refuses a header that follows a byte order mark, or that names a column twice.
     fn judge_header(&self) -> Result<(), Problem> {
         self.judge_line(0)?;
+        if self.text.starts_with("\u{feff}".as_bytes()) {
+            return Err(self.problem(0, "the file begins with a byte order mark: take it out, as by tail -c +4"));
+        }
         let mut names = HashSet::new();
         match self.columns().find(|name| !names.insert(*name)) {
-            Some(name) => Err(self.problem(0, format!("column {} is there twice", shown(name)))),
+            Some(name) => Err(self.problem(0, format!("column '{}' is there twice", shown(name)))),
             None => Ok(()),
         }
     }
@@ -161,7 +164,7 @@ mod tests {
         let file = |text: &str| Problem::File(format!("x.tsv: {text}"));
         assert_eq!(why("a\tb\n1\n", 1), file("row 1 (line 2): it has 1 cells, and the header 2"));
         assert_eq!(why("a\tb\n1\t2\n\n", 2), file("row 2 (line 3): the line is empty"));
-        assert_eq!(why("a\ta\n", 0), file("the header (line 1): column a is there twice"));
+        assert_eq!(why("a\ta\n", 0), file("the header (line 1): column 'a' is there twice"));
         assert_eq!(why("\n", 0), file("the header (line 1): the line is empty"));
     }
 }
