@@ -6,7 +6,10 @@ SHELL := /bin/bash
 # cargo reads compare/.cargo/config.toml only from there
 COMPARE := cd compare && cargo run --quiet --release --offline --
 
-.PHONY: help test lib host run compare record bench prepare
+# the crates under `vayemuku`
+CRATES := $(shell sed -n 's/^vayemuku: *\([^\#]*\).*/\1/p' crates.txt)
+
+.PHONY: help test lib host run mutants compare record bench prepare
 help: ## this list
 	@grep -E '^[a-z]+:.*## ' $(MAKEFILE_LIST) | sed -E 's/^([a-z]+):.*## /\1\t/' | expand -t 12
 
@@ -19,6 +22,7 @@ test: ## host's tests; then prove every crate from nothing, try every must-fail 
 
 lib: ## target/staticlib/libvayemuku.a, to link with include/vayemuku.h
 	@command -v rt >/dev/null || { echo "make: the Rattle toolchain's command rt is not on the PATH" >&2; exit 1; }
+	rt check $(CRATES)  # two at a time
 	rt staticlib vayemuku
 	@echo "target/staticlib/libvayemuku.a, declared by include/vayemuku.h"
 
@@ -33,6 +37,10 @@ run: lib ## two sample batches, made and rescored: one goes well, and one is ref
 	@command -v cargo >/dev/null || { echo "make: cargo is not on the PATH" >&2; exit 1; }
 	cd host && cargo build --quiet --release
 	@host/run-sample
+
+mutants: ## wrong programs: the edits of crates/*/wrong and one-token edits of the code, which the prover must refuse; some 40 minutes
+	@command -v python3 >/dev/null || { echo "make: python3 is not on the PATH" >&2; exit 1; }
+	mutants/run
 
 prepare: ## what compare and bench need: Debian's packaged crates, and sage's unchanged files, checked, under target/sage
 	@command -v cargo >/dev/null || { echo "make: cargo is not on the PATH" >&2; exit 1; }
