@@ -1,5 +1,6 @@
 // What every call asks of its lent columns, and what a refusal leaves in them (document 01, "Questions asked of each call").
 ghost use mathlib.Core.Path.{_≡_};
+ghost use lib.Ieee.{nan};
 ghost use Rattle.folds.specs.Columns.{filled};
 ghost use Rattle.columns.specs.Refusals.{numberOf, outcomeNumber, countedNumber, countedCount};
 
@@ -117,4 +118,23 @@ pub fn fill_u64(column: &mut [u64], value: u64)
         column[i] = value;
         i += 1;
     }
+}
+
+// The working columns of a call that ranks: "They hold 0 in every place afterwards, accepted or refused."
+pub fn clear(keys: &mut [u64], spare: &mut [u64])
+    ensures keys { λ _. ⌜ now (keys .exit) ≡ filled 0 (now (keys .entry)) ⌝ }
+    ensures spare { λ _. ⌜ now (spare .exit) ≡ filled 0 (now (spare .entry)) ⌝ }
+{
+    fill_u64(keys, 0);
+    fill_u64(spare, 0);
+}
+
+// What a refusal of such a call leaves: 0 in the working columns, NaN in the result.
+pub fn blank(keys: &mut [u64], spare: &mut [u64], q: &mut [f32])
+    ensures keys { λ _. ⌜ now (keys .exit) ≡ filled 0 (now (keys .entry)) ⌝ }
+    ensures spare { λ _. ⌜ now (spare .exit) ≡ filled 0 (now (spare .entry)) ⌝ }
+    ensures q { λ _. ⌜ now (q .exit) ≡ filled nan (now (q .entry)) ⌝ }
+{
+    clear(keys, spare);
+    fill_f32(q, 0.0 / 0.0);
 }

@@ -191,25 +191,6 @@ fn write_rows(names: Names, column: &[u64], slots: &[u32], labels: &[i32], q: &m
     }
 }
 
-// "They hold 0 in every place afterwards, accepted or refused."
-fn clear(keys: &mut [u64], spare: &mut [u64])
-    ensures keys { λ _. ⌜ now (keys .exit) ≡ filled 0 (now (keys .entry)) ⌝ }
-    ensures spare { λ _. ⌜ now (spare .exit) ≡ filled 0 (now (spare .entry)) ⌝ }
-{
-    columns::fill_u64(keys, 0);
-    columns::fill_u64(spare, 0);
-}
-
-// What a refusal leaves: 0 in the working columns, NaN in the result.
-fn blank(keys: &mut [u64], spare: &mut [u64], q: &mut [f32])
-    ensures keys { λ _. ⌜ now (keys .exit) ≡ filled 0 (now (keys .entry)) ⌝ }
-    ensures spare { λ _. ⌜ now (spare .exit) ≡ filled 0 (now (spare .entry)) ⌝ }
-    ensures q { λ _. ⌜ now (q .exit) ≡ filled nan (now (q .entry)) ⌝ }
-{
-    clear(keys, spare);
-    columns::fill_f32(q, 0.0 / 0.0);
-}
-
 // The seen sides ranked, and every row's q-value read at its name. `spare` holds the names' q-values once the ranking is done with it.
 fn assigned(
     names: Names,
@@ -242,7 +223,7 @@ fn assigned(
     );
     name_q_values(names, &keys[..rows], spare);
     write_rows(names, spare, slots, labels, q);
-    clear(keys, spare);
+    columns::clear(keys, spare);
     passing
 }
 
@@ -341,7 +322,7 @@ pub fn assign_q_value(
         q.len(),
     ) {
         Outcome::Refused(refusal) => {
-            blank(keys, spare, q);
+            columns::blank(keys, spare, q);
             Counted::Refused(refusal)
         }
         Outcome::Accepted => Counted::Passing(assigned(

@@ -96,25 +96,6 @@ fn one_per_row(rows: usize, scores: usize, keys: usize, spare: usize, q: usize) 
     (scores == rows) & columns_fit(rows, keys, spare, q)
 }
 
-// "They hold 0 in every place afterwards, accepted or refused."
-fn clear(keys: &mut [u64], spare: &mut [u64])
-    ensures keys { λ _. ⌜ now (keys .exit) ≡ filled 0 (now (keys .entry)) ⌝ }
-    ensures spare { λ _. ⌜ now (spare .exit) ≡ filled 0 (now (spare .entry)) ⌝ }
-{
-    columns::fill_u64(keys, 0);
-    columns::fill_u64(spare, 0);
-}
-
-// What a refusal leaves: 0 in the working columns, NaN in the result.
-fn blank(keys: &mut [u64], spare: &mut [u64], q: &mut [f32])
-    ensures keys { λ _. ⌜ now (keys .exit) ≡ filled 0 (now (keys .entry)) ⌝ }
-    ensures spare { λ _. ⌜ now (spare .exit) ≡ filled 0 (now (spare .entry)) ⌝ }
-    ensures q { λ _. ⌜ now (q .exit) ≡ filled nan (now (q .entry)) ⌝ }
-{
-    clear(keys, spare);
-    columns::fill_f32(q, 0.0 / 0.0);
-}
-
 // The rows ranked, counted, and their q-values back at their places.
 fn picked(
     labels: &[i32],
@@ -132,7 +113,7 @@ fn picked(
     pack(labels, scores, keys);
     ranking::sort(keys, spare);
     let passing = assign_q_value(keys, q);
-    clear(keys, spare);
+    columns::clear(keys, spare);
     passing
 }
 
@@ -151,11 +132,11 @@ pub fn picked_precursor(
     ensures spare { λ _. ⌜ now (spare .exit) ≡ filled 0 (now (spare .entry)) ⌝ }
 {
     if !short_enough(labels.len(), scores.len()) {
-        blank(keys, spare, q);
+        columns::blank(keys, spare, q);
         return Counted::Refused(Refusal::TooLong);
     }
     if !one_per_row(labels.len(), scores.len(), keys.len(), spare.len(), q.len()) {
-        blank(keys, spare, q);
+        columns::blank(keys, spare, q);
         return Counted::Refused(Refusal::WrongLength);
     }
     Counted::Passing(picked(labels, scores, keys, spare, q))
@@ -196,7 +177,7 @@ fn rank(scores: &[f64], keys: &mut [u64], spare: &mut [u64], ranks: &mut [u32])
     pack_scores(scores, keys);
     ranking::sort(keys, spare);
     write_ranks(keys, ranks);
-    clear(keys, spare);
+    columns::clear(keys, spare);
 }
 
 // What a refusal leaves: 0 in the working columns, 4,294,967,295 in the result.
@@ -205,7 +186,7 @@ fn blank_ranks(keys: &mut [u64], spare: &mut [u64], ranks: &mut [u32])
     ensures spare { λ _. ⌜ now (spare .exit) ≡ filled 0 (now (spare .entry)) ⌝ }
     ensures ranks { λ _. ⌜ now (ranks .exit) ≡ filled 4294967295 (now (ranks .entry)) ⌝ }
 {
-    clear(keys, spare);
+    columns::clear(keys, spare);
     columns::fill_u32(ranks, 0xffff_ffff);
 }
 

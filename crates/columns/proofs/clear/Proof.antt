@@ -1,7 +1,7 @@
--- `fdr::clear` meets its contract: what the two fills ensure. Assumes nothing.
+-- `columns::clear` meets its contract: what the two fills ensure. Assumes nothing.
 use borrow.Author.Needs.{needs}
-use Rattle.fdr.proofs.clear.Statement.{statement}
-use Rattle.fdr.proofs.clear.Tie as tie
+use Rattle.columns.proofs.clear.Statement.{statement}
+use Rattle.columns.proofs.clear.Tie as tie
 
 returns : tie.Need-returns
 returns c = (c .before .before .before .before .before .before .fill-u64 .ensures, c .before .before .fill-u642 .ensures)

@@ -1,8 +1,8 @@
--- `precursor::blank` meets its contract: what `clear` and the fill ensure. Assumes nothing.
+-- `columns::blank` meets its contract: what `clear` and the fill ensure. Assumes nothing.
 use borrow.Author.Needs.{needs}
 use lib.Ieee.{div, ofBits}
-use Rattle.precursor.proofs.blank.Statement.{statement}
-use Rattle.precursor.proofs.blank.Tie as tie
+use Rattle.columns.proofs.blank.Statement.{statement}
+use Rattle.columns.proofs.blank.Tie as tie
 
 returns : tie.Need-returns
 unfolding div ofBits
