@@ -242,13 +242,11 @@ pub extern "C" fn vayemuku_rank_keys(keys: &mut [u64], spare: &mut [u64]) -> u32
     ensures spare { λ _. ⌜ now (spare .exit) ≡ filled 0 (now (spare .entry)) ⌝ }
 {
     if columns::LONGEST < keys.len() {
-        columns::fill_u64(keys, 0);
-        columns::fill_u64(spare, 0);
+        columns::clear(keys, spare);
         return 1;
     }
     if spare.len() != keys.len() {
-        columns::fill_u64(keys, 0);
-        columns::fill_u64(spare, 0);
+        columns::clear(keys, spare);
         return 2;
     }
     ranking::sort(keys, spare);

@@ -8,29 +8,31 @@ use Rattle.vayemuku.proofs.vayemuku_rank_keys.Tie as tie
 
 returns : tie.Need-returns
 returns c =
-    let told = keys-too-long (c .before .before .before .before .before .before .before .before .before .before .before .args .keys .now) (c .before .before .before .before .before .before .before .before .before .before .before .args .spare .now) _ (c .before .before .before .before .before .before .before .before .if1 .taken) (c .before .before .before .before .before .before .fill-u64 .ensures) in
-    (told .0, (told .1, c .before .before .fill-u642 .ensures))
+    let a = c .before .before .before .before .before .before .before .before .before .before .args in
+    let told = keys-too-long (a .keys .now) (a .spare .now) _ (c .before .before .before .before .before .before .before .if1 .taken) (c .before .before .before .before .clear .ensures .0) in
+    (told .0, (told .1, c .before .before .before .before .clear .ensures .1))
 
 returns-2 : tie.Need-returns-2
 returns-2 c =
-    let told = keys-wrong (c .before .before .before .before .before .before .before .before .before .before .before .before .args .keys .now) (c .before .before .before .before .before .before .before .before .before .before .before .before .args .spare .now) _ (c .before .before .before .before .before .before .before .before .before .if1 .left) (c .before .before .before .before .before .before .before .before .if2 .taken) (c .before .before .before .before .before .before .fill-u643 .ensures) in
-    (told .0, (told .1, c .before .before .fill-u644 .ensures))
+    let a = c .before .before .before .before .before .before .before .before .before .before .before .args in
+    let told = keys-wrong (a .keys .now) (a .spare .now) _ (c .before .before .before .before .before .before .before .before .if1 .left) (c .before .before .before .before .before .before .before .if2 .taken) (c .before .before .before .before .clear2 .ensures .0) in
+    (told .0, (told .1, c .before .before .before .before .clear2 .ensures .1))
 
 returns-3 : tie.Need-returns-3
 returns-3 c =
-    let told = keys-fine (c .before .before .before .before .before .before .before .before .before .before .before .before .before .before .before .args .keys .now) (c .before .before .before .before .before .before .before .before .before .before .before .before .before .before .before .args .spare .now) _ (c .before .before .before .before .before .before .before .before .before .before .before .before .if1 .left) (c .before .before .before .before .before .before .before .before .before .before .before .if2 .left) (c .before .before .before .before .before .before .before .before .sort .ensures .0) in
-    (told .0, (told .1, c .before .before .fill-u645 .ensures ∙ same-blank 0 (c .before .before .before .before .before .before .before .before .sort .last .1 .0) (c .before .before .before .before .before .before .before .before .before .before .before .before .before .before .before .args .spare .now) (c .before .before .before .before .before .before .before .before .sort .ensures .1)))
+    let a = c .before .before .before .before .before .before .before .before .before .before .before .before .before .before .before .args in
+    let sorts = c .before .before .before .before .before .before .before .before .sort in
+    let told = keys-fine (a .keys .now) (a .spare .now) _ (c .before .before .before .before .before .before .before .before .before .before .before .before .if1 .left) (c .before .before .before .before .before .before .before .before .before .before .before .if2 .left) (sorts .ensures .0) in
+    (told .0, (told .1, c .before .before .fill-u64 .ensures ∙ same-blank 0 (sorts .last .1 .0) (a .spare .now) (sorts .ensures .1)))
 
 pub vayemuku-rank-keys-spec : {M : Type 1} → statement M
 vayemuku-rank-keys-spec =
     tie.close
     (tie.spec
     (λ c κs. search needs)
-    (λ c κs. search needs)
     (λ c. search needs)
     (λ c. search needs)
     returns
-    (λ c κs. search needs)
     (λ c κs. search needs)
     (λ c. search needs)
     (λ c. search needs)
