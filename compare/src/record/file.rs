@@ -25,9 +25,9 @@ as their bits, every NaN as 7FC00000 or 7FF8000000000000. `n * f64` is so many f
 const FOOT: &str = "
 FILE.flipped has 72 cases of FILE, of at most 900 bytes each, with wrong answers: in each case one bit of one answer is flipped, and
 nothing else. FILE's cases agree, so that each of these must differ, by that bit alone. Every answer of the layout has its turn, a
-column at its first place, at its last and at any. No NaN is made of a NaN. The number of an answer is flipped only where as much is
-read afterwards. What is held against constants is not recorded, and no flip reaches it: blanks of a refusal, zeros past a size,
-cleared working columns.
+column at its first place, at its last and between. No NaN is made of a NaN. A number that says whether numbers follow is flipped only
+where as much is read afterwards. No flip reaches what is held against a constant, or against another call's answer, and is not
+recorded: the blanks of a refusal, zeros past a size, cleared working columns, the f64 score of a scoring run.
 ";
 
 /// The cases of one function so far, and where their answers are.
