@@ -80,15 +80,14 @@ fn same_table(
     slots: &[u32],
     labels: &[i32],
 ) -> bool {
-    let count = forward.len();
     let rows = slots.len();
-    if count > 210 {
+    if forward.len() > 210 {
         return false;
     }
     if rows > 240 {
         return false;
     }
-    let sides = count * 2;
+    let sides = forward.len() * 2;
     let mut keys = [7u64; 420];
     let mut spare = [7u64; 420];
     let mut q = [0.025f32; 240];
