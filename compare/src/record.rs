@@ -1,9 +1,11 @@
-//! Answers of sage's unchanged Rust, written to files that the programs replay_* read. The same bytes come each time.
+//! Answers of sage's unchanged Rust, written to files that the programs replay_* read, and some of them with a wrong bit each. The same
+//! bytes come each time.
 
 mod counting;
 mod fdr;
 mod file;
 mod fit;
+mod flips;
 mod gauss;
 mod kde;
 

@@ -60,8 +60,8 @@ fn each_list(random: &mut Random, heads: [(usize, usize); 5], mut record: impl F
 fn add(recording: &mut Recording, labels: &[i32], scores: &[f64], q: &[f32], count: usize) {
     recording.case();
     recording.length(labels.len());
-    recording.whole(labels);
-    recording.floats(scores);
-    recording.whole(q);
-    recording.length(count);
+    recording.numbers(labels);
+    recording.numbers(scores);
+    recording.answers("q-values", q);
+    recording.answers("count", &[count as u32]);
 }

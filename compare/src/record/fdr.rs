@@ -86,14 +86,14 @@ fn add(recording: &mut Recording, random: &mut Random, function: Function, turn:
     recording.case();
     recording.length(if names == Names::Two { 2 } else { 1 });
     recording.length(bins.len());
-    recording.floats(bins);
-    recording.floats(&[*min_score, *score_step]);
+    recording.numbers(bins);
+    recording.numbers(&[*min_score, *score_step]);
     recording.length(slots);
     recording.length(rows.slots.len());
-    recording.whole(&rows.slots);
-    recording.whole(&rows.labels);
-    recording.whole(&rows.scores);
-    recording.whole(&picked.q);
-    recording.length(picked.count);
+    recording.numbers(&rows.slots);
+    recording.numbers(&rows.labels);
+    recording.numbers(&rows.scores);
+    recording.answers("q-values", &picked.q);
+    recording.answers("count", &[picked.count as u32]);
     true
 }

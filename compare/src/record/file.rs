@@ -1,5 +1,7 @@
-//! A recording: the number of its cases, their numbers one after the other, least byte first, and an end mark.
+//! A recording: the number of its cases, their numbers one after the other, least byte first, and an end mark. Beside it stands
+//! one of some of its cases with a wrong bit in each.
 
+use super::flips::{flipped, Column};
 use crate::report::Answer;
 use std::fs;
 use std::io::Result;
@@ -19,47 +21,71 @@ as their bits, every NaN as 7FC00000 or 7FF8000000000000. `n * f64` is so many f
 
 ";
 
-/// The cases of one function so far.
+/// What stands behind the layout.
+const FOOT: &str = "
+FILE.flipped has 72 cases of FILE, of at most 900 bytes each, with wrong answers: in each case one bit of one answer is flipped, and
+nothing else. FILE's cases agree, so that each of these must differ, by that bit alone. Every answer of the layout has its turn, a
+column at its first place, at its last and between. No NaN is made of a NaN. A number that says whether numbers follow is flipped only
+where as much is read afterwards. No flip reaches what is held against a constant, or against another call's answer, and is not
+recorded: the blanks of a refusal, zeros past a size, cleared working columns, the f64 score of a scoring run.
+";
+
+/// The cases of one function so far, and where their answers are.
 #[derive(Default)]
 pub struct Recording {
-    cases: u64,
-    bytes: Vec<u8>,
+    cases: Vec<Vec<u8>>,
+    answers: Vec<Column>,
 }
 
 impl Recording {
     /// Begins a case.
     pub fn case(&mut self) {
-        self.cases += 1;
+        self.cases.push(Vec::new());
     }
 
-    /// A length, a count or a number of a refusal.
+    /// A length, or the number of an answer that says how much follows.
     pub fn length(&mut self, length: usize) {
-        self.whole(&[length as u32]);
+        self.numbers(&[length as u32]);
     }
 
-    /// Whole numbers and floats of four bytes.
-    pub fn whole<T: Answer>(&mut self, column: &[T]) {
-        assert!(size_of::<T>() == 4);
-        column.iter().for_each(|x| self.bytes.extend((x.canonical() as u32).to_le_bytes()));
+    /// The case that has begun.
+    fn last(&mut self) -> &mut Vec<u8> {
+        self.cases.last_mut().expect("a case has begun")
     }
 
-    /// Floats of eight bytes.
-    pub fn floats(&mut self, column: &[f64]) {
-        column.iter().for_each(|x| self.bytes.extend(x.canonical().to_le_bytes()));
+    /// Whole numbers and floats, each with the bytes of its type.
+    pub fn numbers<T: Answer>(&mut self, column: &[T]) {
+        let case = self.last();
+        column.iter().for_each(|x| case.extend(&x.canonical().to_le_bytes()[..size_of::<T>()]));
     }
 
-    /// Writes the file.
+    /// The same of answers.
+    pub fn answers<T: Answer>(&mut self, name: &'static str, column: &[T]) {
+        let start = self.last().len();
+        self.numbers(column);
+        let starts = (start..self.last().len()).step_by(size_of::<T>());
+        let places = starts.map(|at| at..at + size_of::<T>()).collect();
+        self.answers.push(Column { name, case: self.cases.len() - 1, places });
+    }
+
+    /// Writes the file, and that of wrong answers.
     pub fn save(&self, folder: &Path, name: &str) -> Result<()> {
-        let whole = [&self.cases.to_le_bytes(), &self.bytes[..], &END.to_le_bytes()].concat();
-        println!("{name:21} {:>5} cases, {:>7} bytes", self.cases, whole.len());
         fs::create_dir_all(folder)?;
-        fs::write(folder.join(name), whole)
+        write(folder, name, &self.cases)?;
+        write(folder, &format!("{name}.flipped"), &flipped(&self.cases, &self.answers))
     }
+}
+
+/// Writes a file of these cases.
+fn write(folder: &Path, name: &str, cases: &[Vec<u8>]) -> Result<()> {
+    let whole = [&(cases.len() as u64).to_le_bytes(), &cases.concat()[..], &END.to_le_bytes()].concat();
+    println!("{name:28} {:>5} cases, {:>7} bytes", cases.len(), whole.len());
+    fs::write(folder.join(name), whole)
 }
 
 /// Writes the README.md of a folder: what each file is, and its layout.
 pub fn describe(folder: &Path, files: &str) -> Result<()> {
-    fs::write(folder.join("README.md"), [HEAD, files].concat())
+    fs::write(folder.join("README.md"), [HEAD, files, FOOT].concat())
 }
 
 /// The first of what is drawn for which `fits` holds.

@@ -46,11 +46,14 @@ fn add_fit(recording: &mut Recording, random: &mut Random, longest: u64) {
     let (number, coefficients) = fit_of_sage(&rows, &labels);
     recording.case();
     recording.length(rows.len());
-    recording.whole(&labels);
-    recording.floats(rows.as_flattened());
-    recording.whole(&[number]);
-    if number == 0 {
-        recording.floats(&coefficients);
+    recording.numbers(&labels);
+    recording.numbers(rows.as_flattened());
+    match number {
+        0 => {
+            recording.length(0);
+            recording.answers("coefficients", &coefficients);
+        }
+        _ => recording.answers("refusal", &[number]),
     }
 }
 
@@ -61,14 +64,14 @@ fn add_score(recording: &mut Recording, random: &mut Random) {
     let ruled = coefficients.iter().zip(&row).fold(0.0, |sum, (w, x)| sum + w * x);
     assert!(sage.same(ruled) || sage == 0.0 && ruled == 0.0);
     recording.case();
-    recording.floats(&coefficients);
-    recording.floats(&row);
-    recording.floats(&[ruled]);
+    recording.numbers(&coefficients);
+    recording.numbers(&row);
+    recording.answers("score", &[ruled]);
     match coefficients.iter().all(|x| x.is_finite()) {
         true => {
             recording.length(0);
-            recording.whole(&[ruled as f32]);
+            recording.answers("narrowed", &[ruled as f32]);
         }
-        false => recording.length(8),
+        false => recording.answers("refusal", &[8u32]),
     }
 }

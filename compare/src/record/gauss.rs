@@ -60,14 +60,14 @@ fn add(recording: &mut Recording, system: &System) {
     let size = system.size;
     recording.case();
     recording.length(size);
-    system.left[..size].iter().for_each(|row| recording.floats(&row[..size]));
-    recording.floats(&system.right[..size]);
+    system.left[..size].iter().for_each(|row| recording.numbers(&row[..size]));
+    recording.numbers(&system.right[..size]);
     let (left, right) = system.matrices();
     match Gauss::solve(left, right).map(Matrix::take) {
         Some(answer) => {
-            recording.length(0);
-            recording.floats(&answer);
+            recording.answers("accepted", &[0u32]);
+            recording.answers("answer", &answer);
         }
-        None => recording.length(7),
+        None => recording.answers("refusal", &[7u32]),
     }
 }

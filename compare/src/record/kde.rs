@@ -60,12 +60,13 @@ fn add_build(recording: &mut Recording, random: &mut Random) {
     recording.length(case.monotonic.into());
     recording.length(case.bins);
     recording.length(case.labels.len());
-    recording.whole(&case.labels);
-    recording.floats(&case.scores);
-    recording.floats(&[sage.min_score, sage.score_step]);
-    recording.floats(&at);
-    [true, false].iter().for_each(|decoys| recording.floats(&case.density(*decoys, &at)));
-    recording.floats(&sage.bins);
+    recording.numbers(&case.labels);
+    recording.numbers(&case.scores);
+    recording.answers("least score", &[sage.min_score]);
+    recording.answers("step", &[sage.score_step]);
+    recording.answers("scores of bins", &at);
+    [true, false].iter().for_each(|decoys| recording.numbers(&case.density(*decoys, &at)));
+    recording.answers("bins", &sage.bins);
 }
 
 /// Records one posterior error.
@@ -74,7 +75,7 @@ fn add_error(recording: &mut Recording, random: &mut Random) {
     let score = draws::score(random, &parts);
     recording.case();
     recording.length(parts.bins.len());
-    recording.floats(&parts.bins);
-    recording.floats(&[parts.min_score, parts.score_step, score]);
-    recording.floats(&[Estimator::from_parts(parts).posterior_error(score)]);
+    recording.numbers(&parts.bins);
+    recording.numbers(&[parts.min_score, parts.score_step, score]);
+    recording.answers("error", &[Estimator::from_parts(parts).posterior_error(score)]);
 }

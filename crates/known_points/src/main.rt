@@ -25,29 +25,14 @@ fn number_32(n: u32) {
     number(n as usize);
 }
 
-// A float's bits; those of document 01's NaN for a NaN.
-fn bits_32(x: f32) -> u32 {
-    if x != x {
-        return 0x7fc0_0000;
-    }
-    f32::to_bits(x)
-}
-
-fn bits_64(x: f64) -> u64 {
-    if x != x {
-        return 0x7ff8_0000_0000_0000;
-    }
-    f64::to_bits(x)
-}
-
 fn single(x: f32) {
     text(b" ");
-    io::print_hex(OUT, bits_32(x) as u64, 8);
+    io::print_hex(OUT, replay::bits_32(x) as u64, 8);
 }
 
 fn double(x: f64) {
     text(b" ");
-    io::print_hex(OUT, bits_64(x), 16);
+    io::print_hex(OUT, replay::bits_64(x), 16);
 }
 
 // The count, or the number of the refusal.
@@ -90,7 +75,7 @@ fn told_line(answer: Line) {
 fn count_bits(column: &[f32], bits: u32) -> usize {
     let mut count: usize = 0;
     for i in 0..column.len() {
-        count += (bits_32(column[i]) == bits) as usize;
+        count += (replay::bits_32(column[i]) == bits) as usize;
     }
     count
 }

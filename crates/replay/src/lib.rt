@@ -77,14 +77,14 @@ fn float_64(bits: u64) -> f64 {
 }
 
 // A float's bits, one pattern for every NaN.
-fn bits_32(x: f32) -> u32 {
+pub fn bits_32(x: f32) -> u32 {
     if x != x {
         return NAN_32;
     }
     f32::to_bits(x)
 }
 
-fn bits_64(x: f64) -> u64 {
+pub fn bits_64(x: f64) -> u64 {
     if x != x {
         return NAN_64;
     }

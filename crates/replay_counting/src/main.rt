@@ -122,7 +122,10 @@ fn replayed(recorded: Recorded, file: &[u8]) {
     replay::finish(fd, file, cases, differing);
 }
 
+// Every case with a flipped bit must differ.
 fn main() {
     replayed(Recorded::Spectrum, b"spectrum_q_value");
+    replayed(Recorded::Spectrum, b"spectrum_q_value.flipped");
     replayed(Recorded::Precursors, b"picked_precursor");
+    replayed(Recorded::Precursors, b"picked_precursor.flipped");
 }

@@ -67,7 +67,7 @@ fn same_q_values(
     same & counted & replay::all_cleared(keys) & replay::all_cleared(spare)
 }
 
-// Lends the working and result columns for up to 210 slots and 240 rows.
+// Lends the working and result columns.
 fn same_table(
     fd: i32,
     names: Names,
@@ -80,56 +80,17 @@ fn same_table(
     slots: &[u32],
     labels: &[i32],
 ) -> bool {
+    let rows = slots.len();
+    if forward.len() > 210 {
+        return false;
+    }
+    if rows > 240 {
+        return false;
+    }
+    let sides = forward.len() * 2;
     let mut keys = [7u64; 420];
     let mut spare = [7u64; 420];
     let mut q = [0.025f32; 240];
-    same_parts(
-        fd,
-        names,
-        estimator,
-        bins,
-        forward,
-        reverse,
-        forward_seen,
-        reverse_seen,
-        slots,
-        labels,
-        &mut keys,
-        &mut spare,
-        &mut q,
-    )
-}
-
-fn same_parts(
-    fd: i32,
-    names: Names,
-    estimator: Estimator,
-    bins: &[f64],
-    forward: &[f32],
-    reverse: &[f32],
-    forward_seen: &[u32],
-    reverse_seen: &[u32],
-    slots: &[u32],
-    labels: &[i32],
-    keys: &mut [u64],
-    spare: &mut [u64],
-    q: &mut [f32],
-) -> bool {
-    let rows = slots.len();
-    let count = forward.len();
-    if count > 210 {
-        return false;
-    }
-    let sides = count * 2;
-    if sides > keys.len() {
-        return false;
-    }
-    if sides > spare.len() {
-        return false;
-    }
-    if rows > q.len() {
-        return false;
-    }
     same_q_values(
         fd,
         names,
@@ -147,7 +108,7 @@ fn same_parts(
     )
 }
 
-// Fills the lent table with the rows, and holds the answers against the recorded ones.
+// Fills the table with the rows, and holds its answers against the recorded ones.
 fn same_filled(
     fd: i32,
     names: Names,
@@ -185,7 +146,7 @@ fn same_filled(
     filled & same
 }
 
-// The same with a table of so many slots.
+// Lends a table of garbage with so many slots.
 fn same_slots(
     fd: i32,
     names: Names,
@@ -195,23 +156,14 @@ fn same_slots(
     slots: &[u32],
     labels: &[i32],
     scores: &[f32],
-    forward: &mut [f32],
-    reverse: &mut [f32],
-    forward_seen: &mut [u32],
-    reverse_seen: &mut [u32],
 ) -> bool {
-    if count > forward.len() {
+    if count > 210 {
         return false;
     }
-    if count > reverse.len() {
-        return false;
-    }
-    if count > forward_seen.len() {
-        return false;
-    }
-    if count > reverse_seen.len() {
-        return false;
-    }
+    let mut forward = [9.5f32; 210];
+    let mut reverse = [9.5f32; 210];
+    let mut forward_seen = [1u32; 210];
+    let mut reverse_seen = [1u32; 210];
     same_filled(
         fd,
         names,
@@ -227,77 +179,30 @@ fn same_slots(
     )
 }
 
-// Lends a table of garbage for up to 210 slots.
-fn same_count(
-    fd: i32,
-    names: Names,
-    estimator: Estimator,
-    count: usize,
-    bins: &[f64],
-    slots: &[u32],
-    labels: &[i32],
-    scores: &[f32],
-) -> bool {
-    let mut forward = [9.5f32; 210];
-    let mut reverse = [9.5f32; 210];
-    let mut forward_seen = [1u32; 210];
-    let mut reverse_seen = [1u32; 210];
-    same_slots(
-        fd,
-        names,
-        estimator,
-        count,
-        bins,
-        slots,
-        labels,
-        scores,
-        &mut forward,
-        &mut reverse,
-        &mut forward_seen,
-        &mut reverse_seen,
-    )
-}
-
-// Reads the first `rows` rows.
+// Reads the rows.
 fn same_rows(
     fd: i32,
     names: Names,
     estimator: Estimator,
     count: usize,
-    rows: usize,
     bins: &[f64],
     slots: &mut [u32],
     labels: &mut [i32],
     scores: &mut [f32],
 ) -> bool {
-    if rows > slots.len() {
-        return false;
-    }
-    if rows > labels.len() {
-        return false;
-    }
-    if rows > scores.len() {
-        return false;
-    }
-    replay::read_u32s(fd, &mut slots[..rows]);
-    replay::read_i32s(fd, &mut labels[..rows]);
-    replay::read_f32s(fd, &mut scores[..rows]);
-    same_count(
-        fd,
-        names,
-        estimator,
-        count,
-        bins,
-        &slots[..rows],
-        &labels[..rows],
-        &scores[..rows],
-    )
+    replay::read_u32s(fd, slots);
+    replay::read_i32s(fd, labels);
+    replay::read_f32s(fd, scores);
+    same_slots(fd, names, estimator, count, bins, slots, labels, scores)
 }
 
-// Lends row columns for up to 240 rows.
+// Lends the rows' columns.
 fn same_list(fd: i32, names: Names, estimator: Estimator, bins: &[f64]) -> bool {
     let count = replay::read_length(fd);
     let rows = replay::read_length(fd);
+    if rows > 240 {
+        return false;
+    }
     let mut slots = [0u32; 240];
     let mut labels = [0i32; 240];
     let mut scores = [0.0f32; 240];
@@ -306,34 +211,33 @@ fn same_list(fd: i32, names: Names, estimator: Estimator, bins: &[f64]) -> bool 
         names,
         estimator,
         count,
-        rows,
         bins,
-        &mut slots,
-        &mut labels,
-        &mut scores,
+        &mut slots[..rows],
+        &mut labels[..rows],
+        &mut scores[..rows],
     )
 }
 
-// Reads the first `n` bins, least score and step.
-fn same_estimated(fd: i32, names: Names, n: usize, bins: &mut [f64]) -> bool {
-    if n > bins.len() {
-        return false;
-    }
-    replay::read_f64s(fd, &mut bins[..n]);
+// Reads the bins, least score and step.
+fn same_estimated(fd: i32, names: Names, bins: &mut [f64]) -> bool {
+    replay::read_f64s(fd, bins);
     let least = replay::read_f64(fd);
     let step = replay::read_f64(fd);
     let estimator = Estimator {
         min_score: least,
         score_step: step,
     };
-    same_list(fd, names, estimator, &bins[..n])
+    same_list(fd, names, estimator, bins)
 }
 
 fn same_case(fd: i32) -> bool {
-    let mut bins = [0.0f64; 1000];
     let names = names_of(replay::read_u32(fd));
     let n = replay::read_length(fd);
-    same_estimated(fd, names, n, &mut bins)
+    if n > 1000 {
+        return false;
+    }
+    let mut bins = [0.0f64; 1000];
+    same_estimated(fd, names, &mut bins[..n])
 }
 
 // How many cases differ.
@@ -352,7 +256,10 @@ fn replayed(file: &[u8]) {
     replay::finish(fd, file, cases, differing);
 }
 
+// Every case with a flipped bit must differ.
 fn main() {
     replayed(b"picked_protein");
+    replayed(b"picked_protein.flipped");
     replayed(b"picked_protein_group");
+    replayed(b"picked_protein_group.flipped");
 }

@@ -55,9 +55,15 @@ fn mismatches(fd: i32, cases: usize) -> u64 {
     differing
 }
 
-fn main() {
-    let fd = replay::open(b"solve");
+fn replayed(file: &[u8]) {
+    let fd = replay::open(file);
     let cases = replay::read_cases(fd);
     let differing = mismatches(fd, cases);
-    replay::finish(fd, b"solve", cases, differing);
+    replay::finish(fd, file, cases, differing);
+}
+
+// Every case with a flipped bit must differ.
+fn main() {
+    replayed(b"solve");
+    replayed(b"solve.flipped");
 }

@@ -198,7 +198,10 @@ fn replayed(recorded: Recorded, file: &[u8]) {
     replay::finish(fd, file, cases, differing);
 }
 
+// Every case with a flipped bit must differ.
 fn main() {
     replayed(Recorded::Build, b"build");
+    replayed(Recorded::Build, b"build.flipped");
     replayed(Recorded::PosteriorError, b"posterior_error");
+    replayed(Recorded::PosteriorError, b"posterior_error.flipped");
 }

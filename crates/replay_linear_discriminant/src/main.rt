@@ -94,7 +94,10 @@ fn replayed(recorded: Recorded, file: &[u8]) {
     replay::finish(fd, file, cases, differing);
 }
 
+// Every case with a flipped bit must differ.
 fn main() {
     replayed(Recorded::Train, b"train");
+    replayed(Recorded::Train, b"train.flipped");
     replayed(Recorded::Score, b"score");
+    replayed(Recorded::Score, b"score.flipped");
 }

@@ -23,9 +23,6 @@ same-slots-spec =
     (tie.spec
     (λ c. search needs)
     (λ c. search needs)
-    (λ c. search needs)
-    (λ c. search needs)
-    (λ c. search needs)
     slice-aggregate-same-filled
     (λ c. search needs)
     slice-aggregate-same-filled-2
@@ -34,8 +31,4 @@ same-slots-spec =
     (λ c. search needs)
     slice-aggregate-same-filled-4
     (λ c κs. search needs)
-    (λ c. search needs)
-    (λ c. search needs)
-    (λ c. search needs)
-    (λ c. search needs)
     (λ c. search needs))

@@ -1,9 +1,9 @@
--- `replay_fdr::same_parts` is safe. Assumes nothing.
+-- `replay_fdr::same_table` is safe. Assumes nothing.
 use mathlib.Core.Path.{sym}
 use lib.Seq.{length-take-le}
 use borrow.Author.Needs.{needs}
-use Rattle.replay_fdr.proofs.same_parts.Statement.{statement}
-use Rattle.replay_fdr.proofs.same_parts.Tie as tie
+use Rattle.replay_fdr.proofs.same_table.Statement.{statement}
+use Rattle.replay_fdr.proofs.same_table.Tie as tie
 
 slice-aggregate-same-q-values : tie.Need-slice-aggregate-same-q-values
 slice-aggregate-same-q-values c = sym (length-take-le _ _ (search needs))
@@ -14,12 +14,10 @@ slice-aggregate-same-q-values-2 c = sym (length-take-le _ _ (search needs))
 slice-aggregate-same-q-values-3 : tie.Need-slice-aggregate-same-q-values-3
 slice-aggregate-same-q-values-3 c = sym (length-take-le _ _ (search needs))
 
-pub same-parts-spec : {M : Type 1} → statement M
-same-parts-spec =
+pub same-table-spec : {M : Type 1} → statement M
+same-table-spec =
     tie.close
     (tie.spec
-    (λ c. search needs)
-    (λ c. search needs)
     (λ c. search needs)
     (λ c. search needs)
     (λ c. search needs)
@@ -30,7 +28,4 @@ same-parts-spec =
     (λ c. search needs)
     slice-aggregate-same-q-values-3
     (λ c κs. search needs)
-    (λ c. search needs)
-    (λ c. search needs)
-    (λ c. search needs)
     (λ c. search needs))

@@ -1,7 +1,0 @@
--- `known_points::bits_32` is safe: no NaN reaches its last line. Assumes nothing.
-use Rattle.floats.proofs.Least.{not-nan}
-use Rattle.known_points.proofs.bits_32.Statement.{statement}
-use Rattle.known_points.proofs.bits_32.Tie as tie
-
-pub bits-32-spec : {M : Type 1} → statement M
-bits-32-spec = tie.close (tie.spec (λ c. tt) (λ c. not-nan _ (c .if1 .left)) (λ c. tt))
