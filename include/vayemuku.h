@@ -49,24 +49,9 @@ float vayemuku_max_f32(float a, float b);
 int32_t vayemuku_total_cmp_f64(double a, double b);
 int32_t vayemuku_total_cmp_f32(float a, float b);
 
-/* The calls below take columns as a pointer and a length. Each returns 0, or the number of the question that refuses: then each result column
- * holds only blanks at its own length (NaN, or 4294967295 for ranks), working columns hold 0, and numbers given back are 0. Columns must not overlap. */
-
-/* Module 6: q-values of a ranked list of spectra; *count gets how many rows, decoys too, have one of at most 0.01. A label of -1 is a decoy.
- * Refusals: 1 more than 16,777,215 labels, 2 q not as long as the labels. */
-uint32_t vayemuku_spectrum_q_value(const int32_t *labels, size_t labels_len, float *q, size_t q_len, size_t *count);
-
-/* Module 6: q-values of precursors, at their places in the list; *count gets how many targets have one of at most 0.05. keys and spare are working
- * columns, one entry per precursor. Refusals: 1, 2. */
-uint32_t vayemuku_picked_precursor(const int32_t *labels, size_t labels_len, const double *scores, size_t scores_len, uint64_t *keys, size_t keys_len,
-                                   uint64_t *spare, size_t spare_len, float *q, size_t q_len, size_t *count);
-
-/* Each precursor's rank from 1: a line of a precursor list counts its rows so. Refusals: 1, 2. */
-uint32_t vayemuku_precursor_ranks(const double *scores, size_t scores_len, uint64_t *keys, size_t keys_len, uint64_t *spare, size_t spare_len,
-                                  uint32_t *ranks, size_t ranks_len);
-
-/* The ranking alone: keys in ascending order; spare is as long and holds 0 afterwards. Refusals: 1, 2, which leave 0 in both. */
-uint32_t vayemuku_rank_keys(uint64_t *keys, size_t keys_len, uint64_t *spare, size_t spare_len);
+/* The calls below take columns as a pointer and a length. All but vayemuku_score and vayemuku_log_error return 0, or the number of the question that
+ * refuses: then each result column holds only blanks at its own length (NaN, or 4294967295 for 32-bit whole numbers), working columns hold 0, and of the
+ * numbers given back floats are NaN and the others 0. Columns must not overlap. */
 
 /* Module 2: a system of size 1 to 20, one right-hand column; entries past the size are not read. values gets the answer, with 0 past the size, or
  * twenty NaN. Refusals: 3 the size, 7 no eps solves. */
@@ -128,7 +113,7 @@ uint32_t vayemuku_add_rows(const uint32_t *slots, size_t slots_len, const int32_
                            float *forward, size_t forward_len, float *reverse, size_t reverse_len, uint32_t *forward_seen, size_t forward_seen_len,
                            uint32_t *reverse_seen, size_t reverse_seen_len);
 
-/* Every seen slot's score and whether its decoy wins (1 or 0), at which the host takes its densities; NaN and 4294967295 for an unseen slot.
+/* Every seen slot's score and whether its decoy wins (1 or 0), from which the host takes its densities; NaN and 4294967295 for an unseen slot.
  * Refusals: 1, 2. */
 uint32_t vayemuku_winners(const float *forward, size_t forward_len, const float *reverse, size_t reverse_len, const uint32_t *forward_seen,
                           size_t forward_seen_len, const uint32_t *reverse_seen, size_t reverse_seen_len, float *scores, size_t scores_len,
@@ -142,6 +127,22 @@ uint32_t vayemuku_assign_q_value(uint32_t two_names, double min_score, double sc
                                  const uint32_t *reverse_seen, size_t reverse_seen_len, const uint32_t *slots, size_t slots_len, const int32_t *labels,
                                  size_t labels_len, uint64_t *keys, size_t keys_len, uint64_t *spare, size_t spare_len, float *q, size_t q_len,
                                  size_t *count);
+
+/* Module 6: q-values of a ranked list of spectra; *count gets how many rows, decoys too, have one of at most 0.01. A label of -1 is a decoy.
+ * Refusals: 1 more than 16,777,215 labels, 2 q not as long as the labels. */
+uint32_t vayemuku_spectrum_q_value(const int32_t *labels, size_t labels_len, float *q, size_t q_len, size_t *count);
+
+/* Module 6: q-values of precursors, at their places in the list; *count gets how many targets have one of at most 0.05. keys and spare are working
+ * columns, one entry per precursor. Refusals: 1, 2. */
+uint32_t vayemuku_picked_precursor(const int32_t *labels, size_t labels_len, const double *scores, size_t scores_len, uint64_t *keys, size_t keys_len,
+                                   uint64_t *spare, size_t spare_len, float *q, size_t q_len, size_t *count);
+
+/* Each precursor's rank from 1: a line of a precursor list counts its rows so. Refusals: 1, 2. */
+uint32_t vayemuku_precursor_ranks(const double *scores, size_t scores_len, uint64_t *keys, size_t keys_len, uint64_t *spare, size_t spare_len,
+                                  uint32_t *ranks, size_t ranks_len);
+
+/* The ranking alone: keys in ascending order; spare is as long and holds 0 afterwards. Refusals: 1, 2, which leave 0 in both. */
+uint32_t vayemuku_rank_keys(uint64_t *keys, size_t keys_len, uint64_t *spare, size_t spare_len);
 
 /* Module 7: whether a line of a ranked list is right, at one in 100 and at one in 20. *right gets 1 or 0; *row, *decoys (plus one) and *targets
  * the numbers of the line if it is right, else of the last later row that qualifies or, if none does, of the line. Refusals: 1, 9 a line past the list. */

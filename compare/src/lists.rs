@@ -153,7 +153,7 @@ pub fn distinct_scores(random: &mut Random, length: usize) -> Vec<f64> {
     numbers.into_iter().map(|number| narrowing_to(random, number)).collect()
 }
 
-/// A f64 that narrows to the f32 of this number: the f32 itself, or one up to the middle between it and the next.
+/// An f64 that narrows to the f32 of this number: the f32 itself, or one up to the middle between it and the next.
 fn narrowing_to(random: &mut Random, number: i64) -> f64 {
     let sign = u32::from(number < 0 || number == 0 && random.below(2) == 1) << 31;
     let exact = f32::from_bits(sign | number.unsigned_abs() as u32);

@@ -1,5 +1,5 @@
-//! The sample's rows through sage's unchanged score_psms, spectrum_q_value and picked_protein, strung together as sage
-//! does, and through host's rescore with sage's densities; host's list of the rows beside host's rescore with its own; and
+//! The sample's rows through sage's unchanged score_psms, spectrum_q_value and picked_protein, one after the
+//! other, and through host's rescore with sage's densities; host's list of the rows beside host's rescore with its own; and
 //! the batch that both do not fit.
 
 mod sage;

@@ -20,7 +20,7 @@
 //! let count = vayemuku::spectrum_q_value(&[1]).count;
 //! ```
 //!
-//! [`rescoring::rescore`] strings the calls together as sage's score_psms, spectrum_q_value and picked_protein do. What the
+//! [`rescoring::rescore`] makes the calls in the order of sage's score_psms, spectrum_q_value and picked_protein. What the
 //! port leaves with the host is here too: the logarithms in [`features`], the kernel in [`kernel`].
 
 mod competition;

@@ -1,4 +1,4 @@
-//! All calls strung together as a host does, beside sage's unchanged functions strung the same way: score_psms, the
+//! All calls one after the other, as a host makes them, beside sage's unchanged functions in the same order: score_psms, the
 //! ranking of rows by their discriminant scores, spectrum_q_value, picked_protein and picked_protein_group.
 
 use super::beside_sage::{densities, Won};

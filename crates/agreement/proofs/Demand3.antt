@@ -146,9 +146,6 @@ targets-up c (l ∷ ls) (q ∷ qs) (suc line) e g =
 
 module _ (labels : List ℤ) (scores : List Float) (keys spare : ℕ) (q : List Float) (count line : ℕ)
     (a : precursorAnswer labels scores keys spare (length q) ≡ Passing count) (l : line ≤ length labels) (r : RightLine 20 (asRanked labels scores) line) where
-  ranked-labels : List ℤ
-  ranked-labels = asRanked labels scores
-
   let-in : (leb (length labels) longest && leb (length scores) longest ≡ true)
       × (eqb (length scores) (length labels) && (eqb keys (length labels) && (eqb spare (length labels) && eqb (length q) (length labels))) ≡ true)
       × (count ≡ targetsAtMost (oneIn 20) (asRanked labels scores) (qValues (asRanked labels scores)))

@@ -10,11 +10,11 @@ use Rattle.columns.specs.declared.Counted.the-variants.{Passing, Refused
 abbrev pub numberOf : Refusal → ℕ
 -- "Is every list at most 16,777,215 long? If not: 1."
 numberOf TooLong = 1
--- "Do all lent columns have the stated length? If not: 2."
+-- "Do all lent columns have the stated length …? If not: 2."
 numberOf WrongLength = 2
 -- "Is the system's size 1 to 20, and the bin count 1 to 65,536? If not: 3."
 numberOf OutOfRange = 3
--- "Is the tolerance ppm or Da? If not: 4."
+-- "Is the tolerance ppm or Da? If not: 4, asked before question 3"
 numberOf NoTolerance = 4
 -- "Is each slot below the slot count, or the no-part mark? If not: 5."
 numberOf NoSuchSlot = 5
@@ -41,6 +41,6 @@ abbrev pub countedCount : Counted → ℕ
 countedCount (Passing n) = n
 countedCount (Refused r) = 0
 
--- Question 1's length
+-- the longest list that question 1 lets pass
 abbrev pub longest : ℕ
 longest = 16777215

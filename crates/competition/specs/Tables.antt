@@ -48,14 +48,16 @@ tableFits t =
 
 -- ---- a fresh table
 
+-- questions 1 and 2
 unfoldable pub freshAnswer : Table → Outcome
 freshAnswer t = cond (tableShort t) (cond (tableFits t) Accepted (Refused WrongLength)) (Refused TooLong)
 
--- "Each side starts at f32::MIN and unseen"; after a refusal "competition tables … are unchanged"
+-- the one where the call accepts, and the other where it refuses
 abbrev pub accepted : {A : Type 0} → Outcome → A → A → A
 accepted Accepted a b = a
 accepted (Refused r) a b = b
 
+-- "Each side starts at f32::MIN and unseen"; after a refusal "Competition tables … are unchanged"
 unfoldable pub freshTable : Table → Table
 freshTable t =
     accepted (freshAnswer t)

@@ -23,7 +23,7 @@ pub struct Competition {
 }
 
 impl Competition {
-    // f32::MIN
+    // f32::MIN, the score of an unseen side
     pub const UNSEEN: f32 = -3.4028235e38;
 
     pub fn default() -> Self

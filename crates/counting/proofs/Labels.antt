@@ -1,9 +1,9 @@
--- Decoys and targets up to a row. Each row adds one to the one or the other, by its label, so together they are the row's number,
--- and both grow with the row. Assumes nothing.
+-- Decoys and targets up to a row. Each row adds one to the one or the other, by its label, so together they are the row's number.
+-- Assumes nothing.
 use mathlib.Core.Path.{_≡_, refl, ap, _∙_}
 use mathlib.Core.List.{List, [], _∷_, map}
 use mathlib.Core.Bool.{Bool, true, false, cond}
-use Prim.Native.Nat.{ℕ, zero, suc, _+_, _≤_, _<_, min, zero-le, suc-le-suc}
+use Prim.Native.Nat.{ℕ, zero, suc, _+_, _<_, min}
 use native.Mathlib.Nat.{not-suc-le-zero, le-of-suc-le-suc}
 use native.Mathlib.Numerals.{add-one}
 use native.Mathlib.Omega.{arith}
@@ -52,30 +52,6 @@ module _ (labels : List ℤ) (i : ℕ) (d : ℤ) (h : i < length labels) where
       go : (b : Bool) → decoys (take (i + 1) labels) ≡ decoys (take i labels) + cond b 1 0 → targets (take (i + 1) labels) ≡ targets (take i labels) + cond b 0 1
       go true e = omega (arith, row-counts i labels, row-counts (i + 1) labels)
       go false e = omega (arith, row-counts i labels, row-counts (i + 1) labels)
-
--- ---- a later row has no fewer
-
-pub decoys-grow : (row later : ℕ) (labels : List ℤ) → row ≤ later → decoys (take row labels) ≤ decoys (take later labels)
-unfolding decoys
-decoys-grow zero later labels h = zero-le
-decoys-grow (suc row) zero labels h = absurd (not-suc-le-zero h)
-decoys-grow (suc row) (suc later) [] h = zero-le
-decoys-grow (suc row) (suc later) (l ∷ ls) h = go (isDecoy l) (decoys-grow row later ls (le-of-suc-le-suc h))
-  where
-    go : (b : Bool) {m n : ℕ} → m ≤ n → cond b (suc m) m ≤ cond b (suc n) n
-    go true e = suc-le-suc e
-    go false e = e
-
-pub targets-grow : (row later : ℕ) (labels : List ℤ) → row ≤ later → targets (take row labels) ≤ targets (take later labels)
-unfolding targets
-targets-grow zero later labels h = zero-le
-targets-grow (suc row) zero labels h = absurd (not-suc-le-zero h)
-targets-grow (suc row) (suc later) [] h = zero-le
-targets-grow (suc row) (suc later) (l ∷ ls) h = go (isDecoy l) (targets-grow row later ls (le-of-suc-le-suc h))
-  where
-    go : (b : Bool) {m n : ℕ} → m ≤ n → cond b m (suc m) ≤ cond b n (suc n)
-    go true e = e
-    go false e = suc-le-suc e
 
 -- ---- no label matters but for being a decoy's
 

@@ -97,13 +97,6 @@ unfolding ratiosFrom
 length-ratios e bins sum targets [] = refl
 length-ratios e bins sum targets (s ∷ ss) = ap suc (length-ratios e bins _ _ ss)
 
-pub length-tagged : (qs : List Float) (keys : List ℕ) → length qs ≡ length keys → length (tagged qs keys) ≡ length keys
-unfolding tagged
-length-tagged [] [] h = refl
-length-tagged [] (k ∷ ks) h = h
-length-tagged (q ∷ qs) [] h = refl
-length-tagged (q ∷ qs) (k ∷ ks) h = ap suc (length-tagged qs ks (omega arith))
-
 pub tags-bits : (qs : List Float) (keys : List ℕ) → AllHeld qs → All Tagged (tagged qs keys)
 unfolding tagged
 tags-bits [] keys h = tt

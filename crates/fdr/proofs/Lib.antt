@@ -1,9 +1,9 @@
 pub mod Keys
-pub mod Minima
-pub mod Ratios
 pub mod Packing
-pub mod Naming
 pub mod Sides
+pub mod Ratios
+pub mod Minima
+pub mod Naming
 pub mod Joined
 pub mod Answers
 pub mod Points

@@ -27,6 +27,7 @@ use Rattle.fdr.specs.declared.Names.{Names}
 use Rattle.fdr.specs.declared.Names.the-variants.{Two, One}
 use Rattle.fdr.specs.Rows.{Side, rankedSides}
 
+-- 1.0
 abbrev pub one : Float
 one = ofBits binary32 0x3F800000
 
@@ -52,7 +53,7 @@ sideQ e bins sides = lows (ratiosFrom e bins one 0 sides)
 abbrev pub sideLabel : Side → ℤ
 sideLabel s = cond (s .decoy) (negsuc 0) (pos 0)
 
--- "The count takes targets at or under 0.01 only", "each by its own ranked row"
+-- "The count takes targets at or under 0.01 only": each by its own ranked row
 unfoldable pub passing : Estimator → List Float → Table → ℕ
 unfolding targetsAtMost sideQ rankedSides oneIn
 passing e bins t = let sides = rankedSides t in targetsAtMost (oneIn 100) (map sideLabel sides) (sideQ e bins sides)
@@ -74,6 +75,7 @@ qOf names (s ∷ ss) (x ∷ xs) name q = qOf names ss xs name (cond (eqb (nameOf
 abbrev pub rowQ : Names → List Side → List Float → ℕ → ℤ → Float
 rowQ names sides qs slot label = cond (eqb slot noPart) one (qOf names sides qs (nameOf names slot (isDecoy label)) one)
 
+-- every feature row's q-value
 unfoldable pub rowsQ : Names → Estimator → List Float → Table → List ℕ → List ℤ → List Float
 unfolding qOf sideQ rankedSides tabulated
 rowsQ names e bins t slots labels =

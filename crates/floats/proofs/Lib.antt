@@ -1,12 +1,12 @@
 pub mod Values
 pub mod Fractions
-pub mod Ratio
-pub mod Convert
 pub mod Fields
 pub mod Narrowing
 pub mod Narrowed
 pub mod Widening
 pub mod Whole
+pub mod Convert
 pub mod Least
 pub mod Order
 pub mod TotalOrder
+pub mod Ratio

@@ -25,10 +25,6 @@ pub one-in-20 : oneIn 20 ≡ ofBits binary32 0x3D4CCCCD
 unfolding oneIn round ofBits
 one-in-20 = refl
 
-pub one-is-one : oneIn 1 ≡ ofBits binary32 0x3F800000
-unfolding oneIn round ofBits
-one-is-one = refl
-
 -- a count up to 2^24 is an f32 exactly
 pub count-value : (n : ℕ) → n ≤ 2 ^ 24 → HasValue (ofInt binary32 (pos n)) false n 1
 unfolding ofInt

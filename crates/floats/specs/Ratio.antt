@@ -1,5 +1,5 @@
 -- The rates that a q-value is held against. Document 01: "The 0.01 and 0.05 that a q-value is held against are the nearest f32,
--- bits 3C23D70A and 3D4CCCCD." The theorems `one-in-100` and `one-in-20` say that these are the bits of one in 100 and one in 20.
+-- bits 3C23D70A and 3D4CCCCD (hexadecimal)". The theorems `one-in-100` and `one-in-20` say that `oneIn` has these bits.
 use Prim.Native.Nat.{ℕ}
 use mathlib.Core.Bool.{false}
 use lib.Ieee.{Float, binary32, round}

@@ -8,7 +8,7 @@ use native.Mathlib.Numerals.{add-one}
 use native.Mathlib.Omega.{arith}
 use mathlib.Core.Bool.{Bool, true, false, cond}
 use lib.Dec.{T}
-use lib.Ieee.Fits.{and-i, and-l, and-r}
+use lib.Ieee.Fits.{and-l, and-r}
 use Rattle.folds.proofs.Tests.{lt-or-ge, no-truth}
 use Rattle.folds.specs.Walks.{steps, across, down, first, seek, every}
 
@@ -139,11 +139,6 @@ every-at p (suc n) i t h = go (every-at p n i (and-l (every p n) (p n) t)) (lt-o
     go : (i < n → T (p i)) → (i < n) ⊎ (n ≤ i) → T (p i)
     go below (inl g) = below g
     go below (inr g) = subst (λ (x : ℕ). T (p x)) (last g h) (and-r (every p n) (p n) t)
-
-pub every-of : (p : ℕ → Bool) (n : ℕ) → ((i : ℕ) → i < n → T (p i)) → T (every p n)
-unfolding every
-every-of p zero h = tt
-every-of p (suc n) h = and-i (every p n) (p n) (every-of p n (λ (i : ℕ) (g : i < n). h i (omega arith))) (h n (le-refl (suc n)))
 
 -- ---- up to the first number that fails a test: every number before j passes
 

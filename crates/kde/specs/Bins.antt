@@ -36,7 +36,7 @@ unfoldable pub folded : {A B : Type 0} → (B → A → B) → B → List A → 
 folded f b [] = b
 folded f b (a ∷ l) = folded f (f b a) l
 
--- Rust's min and max, the accumulated one first: "NaN scores are passed over"
+-- "min and max that ignore a NaN", the accumulated one first, from f64::MAX and f64::MIN on
 abbrev pub leastScore : List Float → Float
 leastScore scores = folded lesser largest scores
 
@@ -93,6 +93,7 @@ posteriorBin pi decoyDensity targetDensity =
     let target = mul binary64 targetDensity (sub binary64 (fin false 1 (pos 0)) pi) in
     div binary64 decoy (add binary64 target decoy)
 
+-- the bin of a number, from both densities there
 abbrev pub binAt : Float → List Float → List Float → ℕ → Float
 binAt pi decoyDensity targetDensity bin = posteriorBin pi (getD decoyDensity bin nan) (getD targetDensity bin nan)
 
@@ -113,6 +114,7 @@ unfoldable pub raised : List Float → List Float
 unfolding raisedFrom
 raised bins = raisedFrom (getD bins (length bins - 1) nan) bins
 
+-- the bins, raised where the builder is monotonic
 unfoldable pub binsOf : Builder → ℕ → ℕ → List Float → List Float → List Float
 unfolding mixed raised
 binsOf builder decoys part decoyDensity targetDensity =

@@ -12,11 +12,13 @@ use Rattle.floats.specs.Convert.{converted}
 use Rattle.columns.specs.declared.Outcome.{Outcome}
 use Rattle.kde.specs.Answers.{lengthsAsked, given}
 
+-- "an infinity of either sign becomes −324.0", which is −81 · 2^2
 abbrev pub finiteLog : Float → Float
 finiteLog nan = nan
 finiteLog (inf s) = fin true 81 (pos 2)
 finiteLog (fin s m e) = fin s m e
 
+-- "is narrowed" first
 abbrev pub logError : Float → Float
 logError log = finiteLog (converted binary32 log)
 

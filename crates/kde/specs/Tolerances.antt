@@ -20,7 +20,7 @@ absolute nan = nan
 absolute (inf s) = inf false
 absolute (fin s m e) = fin false m e
 
--- Rust's max(hi − lo, most).ceil().abs() as usize, in f32
+-- Rust's (hi - lo).max(least).ceil().abs() as usize, in f32
 unfoldable pub binsAcross : Float → Float → Float → ℕ
 unfolding ceiled greater
 binsAcross lo hi least = toUnsigned 64 (absolute (ceiled binary32 (greater (sub binary32 hi lo) least)))
@@ -29,7 +29,7 @@ binsAcross lo hi least = toUnsigned 64 (absolute (ceiled binary32 (greater (sub 
 abbrev pub countAnswer : ℕ → BinCount
 countAnswer n = cond (inRange n) (Bins n) (Refused OutOfRange)
 
--- "Is the tolerance ppm or Da? If not: 4, asked before question 3, since the bin count comes from it."
+-- "Is the tolerance ppm or Da? If not: 4, asked before question 3, since the bin count comes from it". 25 · 2^2 is 100, and 125 · 2^3 is 1000.
 unfoldable pub binCountAnswer : Tolerance → BinCount
 unfolding binsAcross
 binCountAnswer (Ppm lo hi) = countAnswer (binsAcross lo hi (fin false 25 (pos 2)))

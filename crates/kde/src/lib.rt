@@ -55,12 +55,13 @@ impl Builder {
     }
 }
 
-// Stands beside the lent bin column.
+// Least score and step; the lent bin column goes beside it.
 pub struct Estimator {
     pub min_score: f64,
     pub score_step: f64,
 }
 
+// The answers of `bin_scores`, `posterior_error` and `bin_count`.
 pub enum Built {
     Made(Estimator),
     Refused(Refusal),

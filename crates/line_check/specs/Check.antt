@@ -25,7 +25,7 @@ perOf OneIn20 = 20
 abbrev pub countsAt : List ℤ → ℕ → Counts
 countsAt labels row = record { row = row; decoys = decoys (take row labels) + 1; targets = targets (take row labels) }
 
--- A later row that qualifies makes the right line lie past this one.
+-- Questions 1 and 9, and then the answer. Where a later row qualifies, the right line is past this one.
 unfoldable pub lineAnswer : ℕ → List ℤ → ℕ → Line
 lineAnswer per labels line =
     cond (leb (length labels) longest)

@@ -1,4 +1,4 @@
-// The line check (document 01, module 7), which sage has not. One pass: it counts up to the line, keeps those counts, and goes on
+// The line check (document 01, module 7), which sage does not have. One pass: it counts up to the line, keeps those counts, and goes on
 // to the end, where the last later row that qualifies is known.
 ghost use mathlib.Core.Path.{_≡_};
 ghost use Prim.Native.Nat.{_≤_, max};
@@ -21,6 +21,7 @@ pub struct Counts {
     pub targets: usize,
 }
 
+// The answer: whether the line is right, with the counts that it carries, or why the call refuses.
 pub enum Line {
     Right(Counts),
     Wrong(Counts),

@@ -1,11 +1,11 @@
-pub mod Halves
-pub mod Piles
+pub mod Lengths
 pub mod Classes
 pub mod Sums
+pub mod Halves
+pub mod Piles
 pub mod Slots
 pub mod Scatter
 pub mod Fits
-pub mod Lengths
-pub mod Blocks
 pub mod Coefficients
+pub mod Blocks
 pub mod Runs

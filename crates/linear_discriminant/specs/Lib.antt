@@ -1,5 +1,5 @@
 pub mod Rows
-pub mod Blocks
-pub mod Scores
 pub mod Fit
+pub mod Scores
 pub mod Passes
+pub mod Blocks

@@ -6,6 +6,7 @@ use lib.ListN.{getD}
 use lib.Ieee.{Float, nan, binary64, ofBits, add, mul}
 use Rattle.folds.specs.Walks.{across}
 
+-- +0.0
 abbrev pub nought : Float
 nought = ofBits binary64 0
 

@@ -65,7 +65,7 @@ precursorAnswer labels scores keys spare q =
     asked (length labels) (length scores) keys spare q
     (Passing (targetsAtMost (oneIn 20) (asRanked labels scores) (qValues (asRanked labels scores))))
 
--- the result column afterwards; "Working columns … hold 0 in every place afterwards, accepted or refused"
+-- the result column afterwards; the working columns hold 0, which the contracts say
 unfoldable pub precursorColumn : List ℤ → List Float → ℕ → ℕ → List Float → List Float
 precursorColumn labels scores keys spare q =
     cond (accepts (precursorAnswer labels scores keys spare (length q))) (precursorQ labels scores) (filled nan q)

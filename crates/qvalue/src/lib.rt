@@ -1,5 +1,5 @@
 // sage's ml/qvalue.rs (document 01, module 6): one pass down the list writes each row's ratio of decoys plus one to targets,
-// and one pass up takes the running minimum and counts. Neither branches on a row, so their speed does not hang on the labels' order.
+// and one pass up takes the running minimum and counts. Neither branches on a row, so their speed does not depend on the labels' order.
 ghost use mathlib.Core.Path.{_≡_};
 ghost use Prim.Native.Nat.{_≤_};
 ghost use mathlib.Core.Bool.{not};

@@ -1,4 +1,4 @@
--- The numbers that stand for an answer's cases where C and Rust call.
+-- The numbers by which C and Rust hand over builders, estimators, tolerances and names, and those that stand for the cases of an answer.
 use mathlib.Core.List.{List}
 use mathlib.Core.Bool.{not, cond}
 use Prim.Native.Nat.{ℕ}
@@ -44,6 +44,7 @@ keysColumn keys spare = cond (leb (length keys) longest) (cond (eqb spare (lengt
 abbrev pub builderOf : ℕ → ℕ → Builder
 builderOf monotonic bins = record { monotonic = not (eqb monotonic 0); bins = bins }
 
+-- an estimator from its least score and its step
 abbrev pub estimatorOf : Float → Float → Estimator
 estimatorOf least step = record { «min_score» = least; «score_step» = step }
 
