@@ -44,3 +44,8 @@ countedCount (Refused r) = 0
 -- the longest list that question 1 lets pass
 abbrev pub longest : ℕ
 longest = 16777215
+
+-- what a call leaves in a column: the first where it accepts, and the second where it refuses
+abbrev pub ifAccepted : {A : Type 0} → Outcome → A → A → A
+ifAccepted outcome.Accepted a b = a
+ifAccepted (outcome.Refused r) a b = b

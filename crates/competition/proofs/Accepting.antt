@@ -11,13 +11,13 @@ use lib.Ieee.{Float, nan}
 use Rattle.folds.proofs.Columns.{tabulated-constant}
 use Rattle.folds.proofs.Tests.{both}
 use Rattle.folds.specs.Columns.{filled, tabulated}
-use Rattle.columns.specs.Refusals.{longest}
+use Rattle.columns.specs.Refusals.{longest, ifAccepted}
 use Rattle.columns.specs.declared.Outcome.{Outcome}
 use Rattle.columns.specs.declared.Outcome.the-variants.{Accepted, Refused}
 use Rattle.columns.specs.declared.Refusal.{Refusal}
 use Rattle.columns.specs.declared.Refusal.the-variants.{TooLong, WrongLength, NoSuchSlot}
 use Rattle.counting.specs.Labels.{isDecoy}
-use Rattle.competition.specs.Tables.{Table, isSeen, tableShort, tableFits, accepted, noPart, allowed, allAllowed, raiseForward, raiseReverse, withRow, added, addAnswer, addedTable, AddReady}
+use Rattle.competition.specs.Tables.{Table, isSeen, tableShort, tableFits, noPart, allowed, allAllowed, raiseForward, raiseReverse, withRow, added, addAnswer, addedTable, AddReady}
 use Rattle.competition.specs.Winners.{slotSeen, winner, decoyFlag, winnersAnswer, winnerScores, winnerDecoys}
 use Rattle.competition.proofs.Answers.{table-fitting}
 use Rattle.competition.proofs.Rows.{SameLengths, same-lengths-trans, row-lengths}
@@ -30,7 +30,7 @@ pub record Accepting (slots : List ℕ) (labels : List ℤ) (scores : List Float
   pub ready : AddReady slots labels scores t
 
 refused : (r : Refusal) → Refused r ≡ Accepted → ⊥
-refused r e = false≢true (ap (λ (o : Outcome). accepted o true false) e)
+refused r e = false≢true (ap (λ (o : Outcome). ifAccepted o true false) e)
 
 all-asked : (x y z : Bool) → cond x (cond y (cond z Accepted (Refused NoSuchSlot)) (Refused WrongLength)) (Refused TooLong) ≡ Accepted
     → (x ≡ true) × (y ≡ true) × (z ≡ true)
@@ -105,7 +105,7 @@ batch-lengths (s ∷ ss) [] scores t = same-lengths-refl
 batch-lengths (s ∷ ss) (l ∷ ls) [] t = same-lengths-refl
 batch-lengths (s ∷ ss) (l ∷ ls) (x ∷ xs) t = same-lengths-trans (batch-lengths ss ls xs (withRow s l x t)) (row-lengths s l x t)
 
-pub same-lengths-or : (o : Outcome) {t u : Table} → SameLengths u t → SameLengths (accepted o u t) t
+pub same-lengths-or : (o : Outcome) {t u : Table} → SameLengths u t → SameLengths (ifAccepted o u t) t
 same-lengths-or Accepted w = w
 same-lengths-or (Refused r) w = same-lengths-refl
 
@@ -150,7 +150,7 @@ batch-keeps (s ∷ ss) (l ∷ ls) (x ∷ xs) t =
     let q = batch-keeps ss ls xs (withRow s l x t) in
     record { forward = λ k e. q .forward k (p .forward k e); reverse = λ k e. q .reverse k (p .reverse k e) }
 
-pub keeps-or : (o : Outcome) {t u : Table} → KeepsSeen t u → KeepsSeen t (accepted o u t)
+pub keeps-or : (o : Outcome) {t u : Table} → KeepsSeen t u → KeepsSeen t (ifAccepted o u t)
 keeps-or Accepted w = w
 keeps-or (Refused r) w = keeps-refl
 
@@ -179,7 +179,7 @@ module _ (u : Table) (unseen : (slot : ℕ) → slotSeen u slot ≡ false) (scor
   unseen-scores = go (winnersAnswer u (length scores) (length decoys)) refl
     where
       go : (o : Outcome) → winnersAnswer u (length scores) (length decoys) ≡ o
-          → accepted o (tabulated (winner u) 0 (length (u .forward))) (filled nan scores) ≡ filled nan scores
+          → ifAccepted o (tabulated (winner u) 0 (length (u .forward))) (filled nan scores) ≡ filled nan scores
       go Accepted e =
           tabulated-constant (winner u) nan (λ i. rw (unseen i)) 0 (length (u .forward))
           ∙ ap (λ (k : ℕ). replicate k nan) (sym (results-fit u (length scores) (length decoys) e .0))
@@ -190,7 +190,7 @@ module _ (u : Table) (unseen : (slot : ℕ) → slotSeen u slot ≡ false) (scor
   unseen-decoys = go (winnersAnswer u (length scores) (length decoys)) refl
     where
       go : (o : Outcome) → winnersAnswer u (length scores) (length decoys) ≡ o
-          → accepted o (tabulated (decoyFlag u) 0 (length (u .forward))) (filled 4294967295 decoys) ≡ filled 4294967295 decoys
+          → ifAccepted o (tabulated (decoyFlag u) 0 (length (u .forward))) (filled 4294967295 decoys) ≡ filled 4294967295 decoys
       go Accepted e =
           tabulated-constant (decoyFlag u) 4294967295 (λ i. rw (unseen i)) 0 (length (u .forward))
           ∙ ap (λ (k : ℕ). replicate {A = ℕ} k 4294967295) (sym (results-fit u (length scores) (length decoys) e .1))

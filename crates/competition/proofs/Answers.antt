@@ -10,13 +10,13 @@ use lib.ListN.{length}
 use lib.Ieee.{Float, nan}
 use Rattle.folds.proofs.Tests.{both}
 use Rattle.folds.specs.Columns.{filled, tabulated}
-use Rattle.columns.specs.Refusals.{longest}
+use Rattle.columns.specs.Refusals.{longest, ifAccepted}
 use Rattle.columns.specs.declared.Outcome.{Outcome}
 use Rattle.columns.specs.declared.Outcome.the-variants.{Accepted, Refused}
 use Rattle.columns.specs.declared.Refusal.the-variants.{TooLong, WrongLength, NoSuchSlot}
 use Rattle.competition.specs.declared.Competition.{Competition}
 use Rattle.columns.specs.declared.Refusal.{Refusal}
-use Rattle.competition.specs.Tables.{Table, tableOf, lowest, tableShort, tableFits, freshAnswer, freshTable, accepted, allAllowed, added, addAnswer, addedTable, AddReady}
+use Rattle.competition.specs.Tables.{Table, tableOf, lowest, tableShort, tableFits, freshAnswer, freshTable, allAllowed, added, addAnswer, addedTable, AddReady}
 use Rattle.competition.specs.Winners.{winner, decoyFlag, winnersAnswer, winnerScores, winnerDecoys, WinnersReady}
 
 last-of-four : (a b c d : Bool) → ((a && (b && c)) && d) ≡ (a && (b && (c && d)))
@@ -43,7 +43,7 @@ module _ (t : Table) where
 
   fresh-left : (r : Outcome) → freshAnswer t ≡ r
       → freshTable t
-      ≡ accepted r (tableOf (filled lowest (t .forward)) (filled lowest (t .reverse)) (filled 0 (t .forwardSeen)) (filled 0 (t .reverseSeen))) t
+      ≡ ifAccepted r (tableOf (filled lowest (t .forward)) (filled lowest (t .reverse)) (filled 0 (t .forwardSeen)) (filled 0 (t .reverseSeen))) t
   unfolding freshTable
   fresh-left r e = rw e
 
@@ -90,7 +90,7 @@ module _ (slots : List ℕ) (labels : List ℤ) (scores : List Float) (t : Table
       (sym (and-assoc (eqb (length labels) (length slots)) (eqb (length scores) (length slots)) (tableFits t)))
       ∙ rw (a, b, c, d, e)
 
-  add-left : {r : Outcome} → addAnswer slots labels scores t ≡ r → addedTable slots labels scores t ≡ accepted r (added slots labels scores t) t
+  add-left : {r : Outcome} → addAnswer slots labels scores t ≡ r → addedTable slots labels scores t ≡ ifAccepted r (added slots labels scores t) t
   unfolding addedTable
   add-left e = rw e
 
@@ -159,8 +159,8 @@ module _ (t : Table) (scores₀ : List Float) (decoys₀ : List ℕ) where
   winners-is a b c = rw (a, b, c)
 
   winners-told : {r : Outcome} → winnersAnswer t (length scores₀) (length decoys₀) ≡ r → {scores : List Float} {decoys : List ℕ}
-      → scores ≡ accepted r (tabulated (winner t) 0 (length (t .forward))) (filled nan scores₀)
-      → decoys ≡ accepted r (tabulated (decoyFlag t) 0 (length (t .forward))) (filled 4294967295 decoys₀)
+      → scores ≡ ifAccepted r (tabulated (winner t) 0 (length (t .forward))) (filled nan scores₀)
+      → decoys ≡ ifAccepted r (tabulated (decoyFlag t) 0 (length (t .forward))) (filled 4294967295 decoys₀)
       → WinnersTold t scores₀ decoys₀ r scores decoys
   unfolding winnerScores winnerDecoys
   winners-told e s d = record { answer = sym e; scores-are = rw e s; decoys-are = rw e d }

@@ -10,7 +10,7 @@ use lib.ListN.{length, getD, set}
 use lib.Ieee.{Float, nan, binary32, ofBits}
 use Rattle.folds.specs.Columns.{filled}
 use Rattle.floats.specs.Least.{greater}
-use Rattle.columns.specs.Refusals.{longest}
+use Rattle.columns.specs.Refusals.{longest, ifAccepted}
 use Rattle.columns.specs.declared.Outcome.{Outcome}
 use Rattle.columns.specs.declared.Outcome.the-variants.{Accepted, Refused}
 use Rattle.columns.specs.declared.Refusal.the-variants.{TooLong, WrongLength, NoSuchSlot}
@@ -52,15 +52,10 @@ tableFits t =
 unfoldable pub freshAnswer : Table → Outcome
 freshAnswer t = cond (tableShort t) (cond (tableFits t) Accepted (Refused WrongLength)) (Refused TooLong)
 
--- the one where the call accepts, and the other where it refuses
-abbrev pub accepted : {A : Type 0} → Outcome → A → A → A
-accepted Accepted a b = a
-accepted (Refused r) a b = b
-
 -- "Each side starts at f32::MIN and unseen"; after a refusal "Competition tables … are unchanged"
 unfoldable pub freshTable : Table → Table
 freshTable t =
-    accepted (freshAnswer t)
+    ifAccepted (freshAnswer t)
     (tableOf (filled lowest (t .forward)) (filled lowest (t .reverse)) (filled 0 (t .forwardSeen)) (filled 0 (t .reverseSeen)))
     t
 
@@ -111,7 +106,7 @@ addAnswer slots labels scores t =
 -- the table afterwards
 unfoldable pub addedTable : List ℕ → List ℤ → List Float → Table → Table
 unfolding addAnswer added
-addedTable slots labels scores t = accepted (addAnswer slots labels scores t) (added slots labels scores t) t
+addedTable slots labels scores t = ifAccepted (addAnswer slots labels scores t) (added slots labels scores t) t
 
 -- what the questions leave to a row, and to the rows' loop
 pub record RowReady (slot : ℕ) (t : Table) : Type 0 where

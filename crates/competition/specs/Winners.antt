@@ -7,12 +7,13 @@ use Prim.Native.Nat.{ℕ}
 use lib.Dec.{eqb}
 use lib.ListN.{length, getD}
 use lib.Ieee.{Float, nan, le}
+use Rattle.columns.specs.Refusals.{ifAccepted}
 use Rattle.folds.specs.Columns.{filled, tabulated}
 use Rattle.floats.specs.Least.{greater}
 use Rattle.columns.specs.declared.Outcome.{Outcome}
 use Rattle.columns.specs.declared.Outcome.the-variants.{Accepted, Refused}
 use Rattle.columns.specs.declared.Refusal.the-variants.{TooLong, WrongLength}
-use Rattle.competition.specs.Tables.{Table, isSeen, tableShort, tableFits, accepted}
+use Rattle.competition.specs.Tables.{Table, isSeen, tableShort, tableFits}
 
 -- a slot is seen where one of its sides is
 abbrev pub slotSeen : Table → ℕ → Bool
@@ -36,12 +37,12 @@ winnersAnswer t scores decoys =
 unfoldable pub winnerScores : Table → List Float → List ℕ → List Float
 unfolding winnersAnswer tabulated
 winnerScores t scores decoys =
-    accepted (winnersAnswer t (length scores) (length decoys)) (tabulated (winner t) 0 (length (t .forward))) (filled nan scores)
+    ifAccepted (winnersAnswer t (length scores) (length decoys)) (tabulated (winner t) 0 (length (t .forward))) (filled nan scores)
 
 unfoldable pub winnerDecoys : Table → List Float → List ℕ → List ℕ
 unfolding winnersAnswer tabulated
 winnerDecoys t scores decoys =
-    accepted (winnersAnswer t (length scores) (length decoys)) (tabulated (decoyFlag t) 0 (length (t .forward))) (filled 4294967295 decoys)
+    ifAccepted (winnersAnswer t (length scores) (length decoys)) (tabulated (decoyFlag t) 0 (length (t .forward))) (filled 4294967295 decoys)
 
 -- what the questions leave to the loop
 pub record WinnersReady (t : Table) (scores decoys : ℕ) : Type 0 where

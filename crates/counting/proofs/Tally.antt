@@ -15,7 +15,7 @@ use lib.Ieee.{binary32, inFloat}
 use lib.Ieee.Fits.{eq→eqb}
 use mir.Syntax.{w32}
 use mir.Val.{ofZ, boolByte}
-use Rattle.folds.proofs.Tests.{same-test}
+use Rattle.folds.proofs.Tests.{same-test, byte-most}
 use Rattle.counting.specs.Labels.{isDecoy, decoys, targets}
 use Rattle.counting.proofs.Labels.{row-counts, decoys-next, targets-next}
 
@@ -61,12 +61,8 @@ tally-both {labels} {i} t =
     let h = t .high in
     omega (arith, t .decoy-is, t .target-is, row-counts i labels)
 
-pub bit-small : (b : Bool) → boolByte b ≤ 1
-bit-small true = omega arith
-bit-small false = omega arith
-
 pub mark-small : (labels : List ℤ) (i : ℕ) → mark labels i ≤ 1
-mark-small labels i = bit-small (eqb (ofZ w32 (getD labels i (pos 0))) 4294967295)
+mark-small labels i = byte-most (eqb (ofZ w32 (getD labels i (pos 0))) 4294967295)
 
 -- ---- the decoys so far, alone
 

@@ -4,12 +4,12 @@ use mathlib.Core.List.{List}
 use mathlib.Core.Bool.{Bool, true, false, not, cond, _&&_}
 use Prim.Native.Nat.{ℕ, _*_, _≤_}
 use native.Mathlib.Omega.{arith}
-use borrow.Author.Tests.{leb-true, eqb-true}
+use borrow.Author.Tests.{leb-true, eqb-true, not-true, not-false}
 use lib.Dec.{leb, eqb}
 use lib.IntN.{ℤ}
 use lib.ListN.{length}
 use lib.Ieee.{Float, nan}
-use Rattle.folds.proofs.Tests.{both, no-is, yes-is}
+use Rattle.folds.proofs.Tests.{both}
 use Rattle.folds.specs.Columns.{filled}
 use Rattle.columns.specs.Refusals.{longest}
 use Rattle.columns.specs.declared.Outcome.{Outcome}
@@ -65,11 +65,11 @@ module _ (t : Table) (bins : ℕ) (slots : List ℕ) (labels keys spare q : ℕ)
     short-is = sym (s ∙ ap (shortTest (length slots) labels) k)
 
     pub too-long : not short ≡ true → Refused TooLong ≡ assignAsked t bins slots labels keys spare q
-    too-long n = by-tests false _ _ _ (short-is ∙ no-is _ n) refl refl refl
+    too-long n = by-tests false _ _ _ (short-is ∙ not-true _ n) refl refl refl
 
     module _ (long : not short ≡ false) where
       pub few-slots : length (t .forward) ≤ longest
-      few-slots = short-slots t (length slots) labels (short-is ∙ yes-is _ long)
+      few-slots = short-slots t (length slots) labels (short-is ∙ not-false _ long)
 
       module _ (table working fit : Bool) (m : table ≡ tableFits t)
           (w : working ≡ workingTest (length (t .forward)) keys spare) (f : fit ≡ fitTest (length slots) labels q table working) where
@@ -77,18 +77,18 @@ module _ (t : Table) (bins : ℕ) (slots : List ℕ) (labels keys spare q : ℕ)
         fits-are = sym (f ∙ ap₂ (fitTest (length slots) labels q) m w)
 
         pub wrong-length : not fit ≡ true → Refused WrongLength ≡ assignAsked t bins slots labels keys spare q
-        wrong-length n = by-tests true false _ _ (short-is ∙ yes-is _ long) (fits-are ∙ no-is _ n) refl refl
+        wrong-length n = by-tests true false _ _ (short-is ∙ not-false _ long) (fits-are ∙ not-true _ n) refl refl
 
         module _ (fitting : not fit ≡ false) (ranged : Bool) (r : ranged ≡ inRange bins) where
           pub out-of-range : not ranged ≡ true → Refused OutOfRange ≡ assignAsked t bins slots labels keys spare q
-          out-of-range n = by-tests true true false _ (short-is ∙ yes-is _ long) (fits-are ∙ yes-is _ fitting) (sym r ∙ no-is _ n) refl
+          out-of-range n = by-tests true true false _ (short-is ∙ not-false _ long) (fits-are ∙ not-false _ fitting) (sym r ∙ not-true _ n) refl
 
           module _ (some : not ranged ≡ false) (allowed : Bool) (a : allowed ≡ allAllowed (length (t .forward)) slots) where
             pub no-such-slot : not allowed ≡ true → Refused NoSuchSlot ≡ assignAsked t bins slots labels keys spare q
-            no-such-slot n = by-tests true true true false (short-is ∙ yes-is _ long) (fits-are ∙ yes-is _ fitting) (sym r ∙ yes-is _ some) (sym a ∙ no-is _ n)
+            no-such-slot n = by-tests true true true false (short-is ∙ not-false _ long) (fits-are ∙ not-false _ fitting) (sym r ∙ not-false _ some) (sym a ∙ not-true _ n)
 
             pub accepted : not allowed ≡ false → Accepted ≡ assignAsked t bins slots labels keys spare q
-            accepted y = by-tests true true true true (short-is ∙ yes-is _ long) (fits-are ∙ yes-is _ fitting) (sym r ∙ yes-is _ some) (sym a ∙ yes-is _ y)
+            accepted y = by-tests true true true true (short-is ∙ not-false _ long) (fits-are ∙ not-false _ fitting) (sym r ∙ not-false _ some) (sym a ∙ not-false _ y)
 
 -- ---- what it accepts is ready
 

@@ -10,7 +10,7 @@ use lib.Ieee.{Float, nan, binary32, binary64, ofBits, ofInt, add, div}
 use Rattle.folds.specs.Columns.{filled, tabulated}
 use Rattle.floats.specs.Convert.{converted}
 use Rattle.floats.specs.Ratio.{oneIn}
-use Rattle.columns.specs.Refusals.{longest}
+use Rattle.columns.specs.Refusals.{longest, ifAccepted}
 use Rattle.columns.specs.declared.Outcome.{Outcome}
 use Rattle.columns.specs.declared.Outcome.the-variants as outcome
 use Rattle.columns.specs.declared.Outcome.the-variants.{Accepted}
@@ -22,7 +22,7 @@ use Rattle.counting.specs.QValues.{lows, targetsAtMost}
 use Rattle.kde.specs.declared.Estimator.{Estimator}
 use Rattle.kde.specs.Answers.{inRange}
 use Rattle.kde.specs.Estimate.{posteriorError}
-use Rattle.competition.specs.Tables.{Table, tableShort, tableFits, noPart, allAllowed, accepted}
+use Rattle.competition.specs.Tables.{Table, tableShort, tableFits, noPart, allAllowed}
 use Rattle.fdr.specs.declared.Names.{Names}
 use Rattle.fdr.specs.declared.Names.the-variants.{Two, One}
 use Rattle.fdr.specs.Rows.{Side, rankedSides}
@@ -106,4 +106,4 @@ assignAnswer e bins t slots labels keys spare q = countedIf (assignAsked t (leng
 unfoldable pub assignColumn : Names → Estimator → List Float → Table → List ℕ → List ℤ → ℕ → ℕ → List Float → List Float
 unfolding assignAsked rowsQ
 assignColumn names e bins t slots labels keys spare q =
-    accepted (assignAsked t (length bins) slots (length labels) keys spare (length q)) (rowsQ names e bins t slots labels) (filled nan q)
+    ifAccepted (assignAsked t (length bins) slots (length labels) keys spare (length q)) (rowsQ names e bins t slots labels) (filled nan q)

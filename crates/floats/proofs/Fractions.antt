@@ -148,7 +148,7 @@ pick f a b c h = go (ltb a b) (ltb→lt a b)
     go true k = absurd (not-le-of-lt (k tt) h)
     go false k = refl
 
-sub-mul : (a b c : ℕ) → (a - b) * c ≡ a * c - b * c
+pub sub-mul : (a b c : ℕ) → (a - b) * c ≡ a * c - b * c
 sub-mul a b c = mul-comm (a - b) c ∙ mul-sub c a b ∙ ap (λ (z : ℕ). z - c * b) (mul-comm c a) ∙ ap (λ (z : ℕ). a * c - z) (mul-comm c b)
 
 pub sub-values : (f : Format) (x y : Float) (a b c : ℕ) → 0 < c → b ≤ a → HasValue x false a c → HasValue y false b c → sub f x y ≡ round f false (a - b) c

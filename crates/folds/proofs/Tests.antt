@@ -1,5 +1,5 @@
 -- Tests, which are Bools, and what they say. Assumes nothing.
-use mathlib.Core.Path.{_≡_, refl, sym}
+use mathlib.Core.Path.{_≡_, refl}
 use mathlib.Core.Logic.{_⊎_, inl, inr}
 use Prim.Native.Nat.{ℕ, _≤_, _<_}
 use mathlib.Core.Bool.{Bool, true, false, not, cond, _&&_, _||_, false≢true}
@@ -39,15 +39,6 @@ lt-or-ge a b = go (ltb a b) (ltb→lt a b) (nltb→le a b)
 pub both : (a b : Bool) → a && b ≡ true → (a ≡ true) × (b ≡ true)
 both true b e = (refl, e)
 both false b e = absurd (false≢true e)
-
--- a test that was turned round
-pub no-is : (b : Bool) → not b ≡ true → b ≡ false
-no-is true e = sym e
-no-is false e = refl
-
-pub yes-is : (b : Bool) → not b ≡ false → b ≡ true
-yes-is true e = refl
-yes-is false e = sym e
 
 pub no-truth : (b : Bool) → (T b → ⊥) → b ≡ false
 no-truth true h = absurd (h tt)

@@ -10,20 +10,13 @@ use lib.Dec.{eqb}
 use lib.ListN.{length, getD, drop}
 use lib.Seq.{drop-cons, drop-length}
 use mir.Val.{boolByte}
+use Rattle.folds.proofs.Tests.{byte-is, byte-most}
 use Rattle.kde.specs.Bins.{howMany}
 
 pub record Counting {A : Type 0} (p : A → Bool) (l : List A) (i n : ℕ) : Type 0 where
   pub high : i ≤ length l
   pub few : n ≤ i
   pub is : n + howMany p (drop i l) ≡ howMany p l
-
-bit-is : (b : Bool) → boolByte b ≡ cond b 1 0
-bit-is true = refl
-bit-is false = refl
-
-pub bit-le : (b : Bool) → boolByte b ≤ 1
-bit-le true = omega arith
-bit-le false = omega arith
 
 pub counting-start : {A : Type 0} (p : A → Bool) (l : List A) → Counting p l 0 0
 counting-start p l = record { high = zero-le; few = zero-le; is = omega arith }
@@ -35,8 +28,8 @@ counting-step {A} {p} {l} {i} {n} d b w h e =
     let few = w .few in
     let is = w .is in
     let more : howMany p (drop i l) ≡ cond (p (getD l i d)) 1 0 + howMany p (drop (suc i) l) = ap (howMany p) (drop-cons l i d h) in
-    let bit : boolByte b ≡ cond (p (getD l i d)) 1 0 = bit-is b ∙ ap (λ (x : Bool). cond x 1 0) e in
-    let one : boolByte b ≤ 1 = bit-le b in
+    let bit : boolByte b ≡ cond (p (getD l i d)) 1 0 = byte-is b ∙ ap (λ (x : Bool). cond x 1 0) e in
+    let one : boolByte b ≤ 1 = byte-most b in
     let next : howMany p (drop (i + 1) l) ≡ howMany p (drop (suc i) l) = ap (λ (x : ℕ). howMany p (drop x l)) (add-one i) in
     record { high = omega arith; few = omega arith; is = omega arith }
 
@@ -65,5 +58,5 @@ slots-le (n ∷ flags) = go (eqb n 1) (eqb n 0) (howMany (λ (n : ℕ). eqb n 1)
 pub counting-fits : {A : Type 0} {p : A → Bool} {l : List A} {i n : ℕ} (b : Bool) → Counting p l i n → i < length l → length l < 2 ^ 64 → n + boolByte b < 2 ^ 64
 counting-fits {n = n} b w h k =
     let few = w .few in
-    let one = bit-le b in
+    let one = byte-most b in
     omega arith

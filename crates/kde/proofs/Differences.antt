@@ -3,7 +3,7 @@
 use mathlib.Core.Path.{_≡_, refl, sym, ap, _∙_, subst}
 use mathlib.Core.Bool.{Bool, true, false, not, _||_, Bool·beq, false≢true}
 use Prim.Native.Nat.{ℕ, zero, suc, _+_, _-_, _*_, _^_, _≤_, _<_}
-use native.Mathlib.Nat.{add-mul, mul-sub, mul-comm, mul-assoc, mul-right-comm, mul-pos, one-mul, zero-mul, add-comm, mul-le-mul-right}
+use native.Mathlib.Nat.{add-mul, mul-comm, mul-assoc, mul-right-comm, mul-pos, one-mul, zero-mul, add-comm, mul-le-mul-right}
 use native.Mathlib.Omega.{arith}
 use borrow.Author.Tests.{ltb-true, le-ltb}
 use lib.Dec.{T, eqb, eqb→eq, ltb→lt, lt→ltb}
@@ -14,7 +14,7 @@ use lib.Ieee.Fits.{down-pos, and-l, and-r}
 use lib.Ieee.Order.{round-mono}
 use lib.Ieee.Scale.{round-same, finite}
 use Rattle.floats.proofs.Values.{fitting, in-units}
-use Rattle.floats.proofs.Fractions.{neg-round}
+use Rattle.floats.proofs.Fractions.{neg-round, sub-mul}
 use Rattle.floats.proofs.Order.{lt-of-lt-of-le}
 
 abbrev pub nought : Float
@@ -69,9 +69,6 @@ one-apart d l c (suc w) h e = subst (λ (x : ℕ). c ≤ x) (sym e) (ge w c)
       where
         one-le : (w : ℕ) → 1 ≤ suc w
         one-le w = omega arith
-
-sub-mul : (m n k : ℕ) → (m - n) * k ≡ m * k - n * k
-sub-mul m n k = mul-comm (m - n) k ∙ mul-sub k m n ∙ rw (mul-comm k m, mul-comm k n)
 
 module _ (f : Format) (a b c u v : ℕ) (ha : a * 2 ^ low f ≡ u * c) (hb : b * 2 ^ low f ≡ v * c) where
   join : 0 < a + b → c ≤ (a + b) * 2 ^ low f

@@ -6,12 +6,12 @@ use Prim.Native.Nat.{ℕ, _≤_}
 use native.Mathlib.Omega.{arith}
 use lib.Dec.{T, leb, leb→le}
 use lib.Ieee.Fits.{and-l, and-r}
-use Rattle.columns.specs.Refusals.{longest}
+use Rattle.columns.specs.Refusals.{longest, ifAccepted}
 use Rattle.columns.specs.declared.Refusal.{Refusal}
 use Rattle.columns.specs.declared.Refusal.the-variants.{TooLong, WrongLength, OutOfRange}
 use Rattle.columns.specs.declared.Outcome.{Outcome}
 use Rattle.columns.specs.declared.Outcome.the-variants.{Accepted, Refused}
-use Rattle.kde.specs.Answers.{inRange, lengthsAsked, after, asked, given}
+use Rattle.kde.specs.Answers.{inRange, lengthsAsked, after, asked}
 
 pub record InRange (bins : ℕ) : Type 0 where
   pub some : 1 ≤ bins
@@ -57,8 +57,8 @@ asked-range rows fitting bins e = go (lengthsAsked rows fitting) (inRange bins) 
 
 -- ---- what the answer picks
 
-pub given-refused : {A : Type 0} {o : Outcome} {r : Refusal} (x y : A) → o ≡ Refused r → y ≡ given o x y
+pub given-refused : {A : Type 0} {o : Outcome} {r : Refusal} (x y : A) → o ≡ Refused r → y ≡ ifAccepted o x y
 given-refused x y e = rw e
 
-pub given-accepted : {A : Type 0} {o : Outcome} (x y : A) → o ≡ Accepted → x ≡ given o x y
+pub given-accepted : {A : Type 0} {o : Outcome} (x y : A) → o ≡ Accepted → x ≡ ifAccepted o x y
 given-accepted x y e = rw e

@@ -35,11 +35,6 @@ unfoldable pub asked : ℕ → Bool → ℕ → Outcome
 unfolding lengthsAsked
 asked rows fitting bins = after (lengthsAsked rows fitting) (cond (inRange bins) Accepted (Refused OutOfRange))
 
--- the one where the call accepts, and the other where it refuses
-abbrev pub given : {A : Type 0} → Outcome → A → A → A
-given Accepted a b = a
-given (Refused r) a b = b
-
 -- ---- numbers and values
 
 abbrev pub builtNumber : Built → ℕ

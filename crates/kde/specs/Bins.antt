@@ -9,7 +9,7 @@ use lib.IntN.{ℤ, pos}
 use lib.ListN.{length, getD}
 use lib.Ieee.{Float, nan, fin, binary64, ofBits, ofInt, neg, add, sub, mul, div}
 use Rattle.folds.specs.Columns.{filled, tabulated}
-use Rattle.columns.specs.Refusals.{longest}
+use Rattle.columns.specs.Refusals.{longest, ifAccepted}
 use Rattle.counting.specs.Labels.{decoys}
 use Rattle.floats.specs.Least.{lesser, greater}
 use Rattle.columns.specs.declared.Outcome.{Outcome}
@@ -18,7 +18,7 @@ use Rattle.kde.specs.declared.Estimator.{Estimator}
 use Rattle.kde.specs.declared.Builder.{Builder}
 use Rattle.kde.specs.declared.Built.{Built}
 use Rattle.kde.specs.declared.Built.the-variants as built
-use Rattle.kde.specs.Answers.{asked, given}
+use Rattle.kde.specs.Answers.{asked}
 
 -- ---- "Builder settings are a flag and a bin count, starting at monotonic and 1000."
 
@@ -71,7 +71,7 @@ binScoresAnswer builder scores n = builtBy (scoresAsked builder scores n) (estim
 unfoldable pub binScoresColumn : Builder → List Float → List Float → List Float
 unfolding asked estimatorOf
 binScoresColumn builder scores column =
-    given (scoresAsked builder scores (length column))
+    ifAccepted (scoresAsked builder scores (length column))
     (tabulated (binScore (estimatorOf (builder .bins) scores)) 0 (builder .bins))
     (filled nan column)
 
@@ -141,7 +141,7 @@ binsAsked builder listed decoyPlaces targetPlaces places =
 unfoldable pub binsWritten : Builder → ℕ → ℕ → ℕ → List Float → List Float → List Float → List Float
 unfolding binsAsked binsOf
 binsWritten builder listed decoys part decoyDensity targetDensity column =
-    given (binsAsked builder listed (length decoyDensity) (length targetDensity) (length column))
+    ifAccepted (binsAsked builder listed (length decoyDensity) (length targetDensity) (length column))
     (binsOf builder decoys part decoyDensity targetDensity)
     (filled nan column)
 

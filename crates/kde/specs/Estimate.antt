@@ -6,6 +6,7 @@ use Prim.Native.Nat.{ℕ, _+_, _-_, min}
 use lib.Dec.{eqb}
 use lib.ListN.{length, getD}
 use lib.Ieee.{Float, nan, binary64, toUnsigned, add, sub, mul, div}
+use Rattle.columns.specs.Refusals.{ifAccepted}
 use Rattle.folds.specs.Columns.{filled}
 use Rattle.floats.specs.Whole.{floored}
 use Rattle.columns.specs.declared.Refusal.the-variants.{OutOfRange}
@@ -13,7 +14,7 @@ use Rattle.columns.specs.declared.Outcome.{Outcome}
 use Rattle.kde.specs.declared.Estimator.{Estimator}
 use Rattle.kde.specs.declared.Posterior.{Posterior}
 use Rattle.kde.specs.declared.Posterior.the-variants.{Error, Refused}
-use Rattle.kde.specs.Answers.{inRange, asked, given}
+use Rattle.kde.specs.Answers.{inRange, asked}
 use Rattle.kde.specs.Bins.{binScore}
 
 -- how many whole steps a score lies above the least, as Rust's floor() and `as usize` have it
@@ -51,4 +52,4 @@ errorsAnswer bins scores n = asked (length scores) (eqb n (length scores)) (leng
 unfoldable pub errorsColumn : Estimator → List Float → List Float → List Float → List Float
 unfolding errorsAnswer posteriorError
 errorsColumn e bins scores column =
-    given (errorsAnswer bins scores (length column)) (map (posteriorError e bins) scores) (filled nan column)
+    ifAccepted (errorsAnswer bins scores (length column)) (map (posteriorError e bins) scores) (filled nan column)

@@ -7,10 +7,11 @@ use lib.Dec.{eqb}
 use lib.IntN.{pos}
 use lib.ListN.{length}
 use lib.Ieee.{Float, nan, inf, fin, binary32}
+use Rattle.columns.specs.Refusals.{ifAccepted}
 use Rattle.folds.specs.Columns.{filled}
 use Rattle.floats.specs.Convert.{converted}
 use Rattle.columns.specs.declared.Outcome.{Outcome}
-use Rattle.kde.specs.Answers.{lengthsAsked, given}
+use Rattle.kde.specs.Answers.{lengthsAsked}
 
 -- "an infinity of either sign becomes −324.0", which is −81 · 2^2
 abbrev pub finiteLog : Float → Float
@@ -29,4 +30,4 @@ logErrorsAnswer logs n = lengthsAsked (length logs) (eqb n (length logs))
 
 unfoldable pub logErrorsColumn : List Float → List Float → List Float
 unfolding logErrorsAnswer
-logErrorsColumn logs column = given (logErrorsAnswer logs (length column)) (map logError logs) (filled nan column)
+logErrorsColumn logs column = ifAccepted (logErrorsAnswer logs (length column)) (map logError logs) (filled nan column)

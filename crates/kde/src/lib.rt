@@ -10,7 +10,7 @@ ghost use mathlib.Core.List.{map};
 ghost use lib.Ieee.{fin, lt};
 ghost use Rattle.folds.specs.Columns.{tabulated};
 ghost use Rattle.kde.specs.Answers.{inRange, lengthsAsked, asked};
-ghost use Rattle.kde.specs.Bins.{freshBuilder, leastScore, greatestScore, estimatorOf, binScore, binScoresAnswer, binScoresColumn, howMany, mixed, raised, Ready, binsOf, binsAsked, labelBins, slotBins};
+ghost use Rattle.kde.specs.Bins.{freshBuilder, leastScore, greatestScore, binScore, binScoresAnswer, binScoresColumn, howMany, mixed, raised, Ready, binsOf, binsAsked, labelBins, slotBins};
 ghost use Rattle.kde.specs.Estimate.{stepsUp, posteriorError, posteriorAnswer, errorsAnswer, errorsColumn};
 ghost use Rattle.kde.specs.Tolerances.{countAnswer, binsAcross, binCountAnswer};
 ghost use Rattle.kde.specs.LogErrors.{logError, logErrorsAnswer, logErrorsColumn};
@@ -31,7 +31,7 @@ impl Builder {
 
     pub const BINS: usize = 1000;
 
-    pub fn new() -> Self
+    pub fn default() -> Self
         ensures { λ r. ⌜ r ≡ freshBuilder ⌝ }
     {
         Self {

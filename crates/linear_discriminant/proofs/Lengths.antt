@@ -4,7 +4,7 @@ use mathlib.Core.Bool.{Bool, true, false, not, _&&_}
 use Prim.Native.Nat.{ℕ, _*_, _/_, _%_}
 use native.Mathlib.Omega.{arith}
 use lib.Dec.{eqb}
-use borrow.Author.Tests.{eqb-true, eqb-false, eq-eqb, ne-eqb}
+use borrow.Author.Tests.{eqb-true, eqb-false, eq-eqb, ne-eqb, not-true, not-false}
 
 pub by-quotient : (n rows : ℕ) → (eqb (n % 20) 0 && eqb (n / 20) rows) ≡ eqb n (20 * rows)
 by-quotient n rows = go (eqb (n % 20) 0) (eqb (n / 20) rows) refl refl
@@ -22,14 +22,6 @@ by-quotient n rows = go (eqb (n % 20) 0) (eqb (n / 20) rows) refl refl
         sym (ne-eqb n (20 * rows) (λ e. a (omega arith)))
 
 -- what a test that is asked by `!` says
-pub not-true : (b : Bool) → not b ≡ true → b ≡ false
-not-true true e = sym e
-not-true false e = refl
-
-pub not-false : (b : Bool) → not b ≡ false → b ≡ true
-not-false true e = refl
-not-false false e = sym e
-
 pub unequal : (a b : ℕ) {t : Bool} → t ≡ eqb a b → not t ≡ true → a ≡ b → ⊥
 unequal a b {t} e n = eqb-false a b (sym e ∙ not-true t n)
 

@@ -11,7 +11,7 @@ ghost use Rattle.floats.specs.Convert.{converted};
 ghost use Rattle.linear_discriminant.specs.Rows.{nought, scored};
 ghost use Rattle.linear_discriminant.specs.Blocks.{written};
 ghost use Rattle.linear_discriminant.specs.Scores.{isFinite, allFinite, scoreAt, blankRun, ran, scoresRun, scoredRows};
-ghost use Rattle.linear_discriminant.specs.Fit.{classOf, blankModel, modelOf, trainedNumber, asFloat, fitted, trained};
+ghost use Rattle.linear_discriminant.specs.Fit.{classOf, blankModel, modelOf, trainedNumber, fitted, trained};
 ghost use Rattle.linear_discriminant.specs.Passes.{addedRow, summedRows, meanOf, centredRow, pairAdded, keptAdded, halves, width, placeOf, scatterOf, withinRow, withinTable, lessRow, fittedWith};
 use columns::Outcome;
 use columns::Refusal;

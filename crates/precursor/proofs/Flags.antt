@@ -1,8 +1,7 @@
 -- The test for a decoy, as the machine makes it on 32 bits. Assumes nothing.
 use mathlib.Core.Path.{_≡_, ap, _∙_}
-use mathlib.Core.Bool.{Bool, true, false, cond}
-use Prim.Native.Nat.{_<_}
-use lib.Dec.{eqb, lit<}
+use mathlib.Core.Bool.{cond}
+use lib.Dec.{eqb}
 use lib.IntN.{ℤ}
 use mir.Syntax.{w32}
 use mir.Val.{SFits, ofZ, boolByte}
@@ -12,7 +11,3 @@ use Rattle.counting.proofs.Tally.{label-test}
 
 pub decoy-flag : (z : ℤ) → SFits w32 z → boolByte (eqb (ofZ w32 z) 4294967295) ≡ cond (isDecoy z) 1 0
 decoy-flag z f = ap boolByte (label-test z (f .sfits)) ∙ byte-is (isDecoy z)
-
-pub byte-small : (b : Bool) → boolByte b < 2
-byte-small true = lit< tt
-byte-small false = lit< tt

@@ -11,7 +11,7 @@ enum Recorded {
 }
 
 fn builder_of(monotonic: u32, bins: usize) -> Builder {
-    let fresh = Builder::new();
+    let fresh = Builder::default();
     let asked = fresh.monotonic(monotonic == 1);
     asked.bins(bins)
 }

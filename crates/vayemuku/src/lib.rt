@@ -186,161 +186,6 @@ pub extern "C" fn vayemuku_total_cmp_f32(a: f32, b: f32) -> i32
     sign(floats::total_cmp_f32(a, b))
 }
 
-// Module 6, q-values. `count` gets the count, and the number of the refusal, or 0, is returned.
-
-#[no_mangle]
-pub extern "C" fn vayemuku_spectrum_q_value(labels: &[i32], q: &mut [f32], count: &mut usize) -> u32
-    ensures number { λ r. ⌜ r ≡ countedNumber (spectrumAnswer (now (labels .entry)) (length (now (q .entry)))) ⌝ }
-    ensures column { λ _. ⌜ now (q .exit) ≡ spectrumColumn (now (labels .entry)) (now (q .entry)) ⌝ }
-    ensures count { λ _. ⌜ now (count .exit) ≡ countedCount (spectrumAnswer (now (labels .entry)) (length (now (q .entry)))) ⌝ }
-{
-    let answer = qvalue::spectrum_q_value(labels, q);
-    *count = columns::counted_count(answer);
-    columns::counted_number(answer)
-}
-
-#[no_mangle]
-pub extern "C" fn vayemuku_picked_precursor(
-    labels: &[i32],
-    scores: &[f64],
-    keys: &mut [u64],
-    spare: &mut [u64],
-    q: &mut [f32],
-    count: &mut usize,
-) -> u32
-    ensures number { λ r. ⌜ r ≡ countedNumber (precursorAnswer (now (labels .entry)) (now (scores .entry)) (length (now (keys .entry))) (length (now (spare .entry))) (length (now (q .entry)))) ⌝ }
-    ensures keys { λ _. ⌜ now (keys .exit) ≡ filled 0 (now (keys .entry)) ⌝ }
-    ensures spare { λ _. ⌜ now (spare .exit) ≡ filled 0 (now (spare .entry)) ⌝ }
-    ensures column { λ _. ⌜ now (q .exit) ≡ precursorColumn (now (labels .entry)) (now (scores .entry)) (length (now (keys .entry))) (length (now (spare .entry))) (now (q .entry)) ⌝ }
-    ensures count { λ _. ⌜ now (count .exit) ≡ countedCount (precursorAnswer (now (labels .entry)) (now (scores .entry)) (length (now (keys .entry))) (length (now (spare .entry))) (length (now (q .entry)))) ⌝ }
-{
-    let answer = precursor::picked_precursor(labels, scores, keys, spare, q);
-    *count = columns::counted_count(answer);
-    columns::counted_number(answer)
-}
-
-#[no_mangle]
-pub extern "C" fn vayemuku_precursor_ranks(
-    scores: &[f64],
-    keys: &mut [u64],
-    spare: &mut [u64],
-    ranks: &mut [u32],
-) -> u32
-    ensures number { λ r. ⌜ r ≡ outcomeNumber (ranksAnswer (length (now (scores .entry))) (length (now (keys .entry))) (length (now (spare .entry))) (length (now (ranks .entry)))) ⌝ }
-    ensures keys { λ _. ⌜ now (keys .exit) ≡ filled 0 (now (keys .entry)) ⌝ }
-    ensures spare { λ _. ⌜ now (spare .exit) ≡ filled 0 (now (spare .entry)) ⌝ }
-    ensures column { λ _. ⌜ now (ranks .exit) ≡ ranksColumn (now (scores .entry)) (length (now (keys .entry))) (length (now (spare .entry))) (now (ranks .entry)) ⌝ }
-{
-    columns::outcome_number(precursor::precursor_ranks(scores, keys, spare, ranks))
-}
-
-// The ranking alone: keys in ascending order, and 0 in `spare`. Refusals 1 and 2 leave 0 in both.
-#[no_mangle]
-pub extern "C" fn vayemuku_rank_keys(keys: &mut [u64], spare: &mut [u64]) -> u32
-    ensures number { λ r. ⌜ r ≡ keysNumber (length (now (keys .entry))) (length (now (spare .entry))) ⌝ }
-    ensures keys { λ _. ⌜ now (keys .exit) ≡ keysColumn (now (keys .entry)) (length (now (spare .entry))) ⌝ }
-    ensures spare { λ _. ⌜ now (spare .exit) ≡ filled 0 (now (spare .entry)) ⌝ }
-{
-    if columns::LONGEST < keys.len() {
-        columns::clear(keys, spare);
-        return 1;
-    }
-    if spare.len() != keys.len() {
-        columns::clear(keys, spare);
-        return 2;
-    }
-    ranking::sort(keys, spare);
-    columns::fill_u64(spare, 0);
-    0
-}
-
-// Module 7, the line check.
-
-// A line's answer as numbers.
-pub struct LineNumbers {
-    pub number: u32,
-    pub right: u32,
-    pub row: usize,
-    pub decoys: usize,
-    pub targets: usize,
-}
-
-fn line_numbers(line: Line) -> LineNumbers
-    ensures { λ r. ⌜ r ≡ numbersOf line ⌝ }
-{
-    match line {
-        Line::Right(c) => LineNumbers {
-            number: 0,
-            right: 1,
-            row: c.row,
-            decoys: c.decoys,
-            targets: c.targets,
-        },
-        Line::Wrong(c) => LineNumbers {
-            number: 0,
-            right: 0,
-            row: c.row,
-            decoys: c.decoys,
-            targets: c.targets,
-        },
-        Line::Refused(refusal) => LineNumbers {
-            number: columns::number(refusal),
-            right: 0,
-            row: 0,
-            decoys: 0,
-            targets: 0,
-        },
-    }
-}
-
-// At one in 100: `right` gets 1 or 0, and the others the three counts of the answer.
-#[no_mangle]
-pub extern "C" fn vayemuku_check_line_100(
-    labels: &[i32],
-    line: usize,
-    right: &mut u32,
-    row: &mut usize,
-    decoys: &mut usize,
-    targets: &mut usize,
-) -> u32
-    ensures number { λ r. ⌜ r ≡ numbersOf (lineAnswer 100 (now (labels .entry)) line) .number ⌝ }
-    ensures right { λ _. ⌜ now (right .exit) ≡ numbersOf (lineAnswer 100 (now (labels .entry)) line) .right ⌝ }
-    ensures row { λ _. ⌜ now (row .exit) ≡ numbersOf (lineAnswer 100 (now (labels .entry)) line) .row ⌝ }
-    ensures decoys { λ _. ⌜ now (decoys .exit) ≡ numbersOf (lineAnswer 100 (now (labels .entry)) line) .decoys ⌝ }
-    ensures targets { λ _. ⌜ now (targets .exit) ≡ numbersOf (lineAnswer 100 (now (labels .entry)) line) .targets ⌝ }
-{
-    let told = line_numbers(line_check::check_line(labels, line, Rate::OneIn100));
-    *right = told.right;
-    *row = told.row;
-    *decoys = told.decoys;
-    *targets = told.targets;
-    told.number
-}
-
-// At one in 20, likewise.
-#[no_mangle]
-pub extern "C" fn vayemuku_check_line_20(
-    labels: &[i32],
-    line: usize,
-    right: &mut u32,
-    row: &mut usize,
-    decoys: &mut usize,
-    targets: &mut usize,
-) -> u32
-    ensures number { λ r. ⌜ r ≡ numbersOf (lineAnswer 20 (now (labels .entry)) line) .number ⌝ }
-    ensures right { λ _. ⌜ now (right .exit) ≡ numbersOf (lineAnswer 20 (now (labels .entry)) line) .right ⌝ }
-    ensures row { λ _. ⌜ now (row .exit) ≡ numbersOf (lineAnswer 20 (now (labels .entry)) line) .row ⌝ }
-    ensures decoys { λ _. ⌜ now (decoys .exit) ≡ numbersOf (lineAnswer 20 (now (labels .entry)) line) .decoys ⌝ }
-    ensures targets { λ _. ⌜ now (targets .exit) ≡ numbersOf (lineAnswer 20 (now (labels .entry)) line) .targets ⌝ }
-{
-    let told = line_numbers(line_check::check_line(labels, line, Rate::OneIn20));
-    *right = told.right;
-    *row = told.row;
-    *decoys = told.decoys;
-    *targets = told.targets;
-    told.number
-}
-
 // Module 2, elimination.
 
 fn solved_number(answer: Solved) -> u32
@@ -753,4 +598,159 @@ pub extern "C" fn vayemuku_assign_q_value(
     );
     *count = columns::counted_count(answer);
     columns::counted_number(answer)
+}
+
+// Module 6, q-values. `count` gets the count, and the number of the refusal, or 0, is returned.
+
+#[no_mangle]
+pub extern "C" fn vayemuku_spectrum_q_value(labels: &[i32], q: &mut [f32], count: &mut usize) -> u32
+    ensures number { λ r. ⌜ r ≡ countedNumber (spectrumAnswer (now (labels .entry)) (length (now (q .entry)))) ⌝ }
+    ensures column { λ _. ⌜ now (q .exit) ≡ spectrumColumn (now (labels .entry)) (now (q .entry)) ⌝ }
+    ensures count { λ _. ⌜ now (count .exit) ≡ countedCount (spectrumAnswer (now (labels .entry)) (length (now (q .entry)))) ⌝ }
+{
+    let answer = qvalue::spectrum_q_value(labels, q);
+    *count = columns::counted_count(answer);
+    columns::counted_number(answer)
+}
+
+#[no_mangle]
+pub extern "C" fn vayemuku_picked_precursor(
+    labels: &[i32],
+    scores: &[f64],
+    keys: &mut [u64],
+    spare: &mut [u64],
+    q: &mut [f32],
+    count: &mut usize,
+) -> u32
+    ensures number { λ r. ⌜ r ≡ countedNumber (precursorAnswer (now (labels .entry)) (now (scores .entry)) (length (now (keys .entry))) (length (now (spare .entry))) (length (now (q .entry)))) ⌝ }
+    ensures keys { λ _. ⌜ now (keys .exit) ≡ filled 0 (now (keys .entry)) ⌝ }
+    ensures spare { λ _. ⌜ now (spare .exit) ≡ filled 0 (now (spare .entry)) ⌝ }
+    ensures column { λ _. ⌜ now (q .exit) ≡ precursorColumn (now (labels .entry)) (now (scores .entry)) (length (now (keys .entry))) (length (now (spare .entry))) (now (q .entry)) ⌝ }
+    ensures count { λ _. ⌜ now (count .exit) ≡ countedCount (precursorAnswer (now (labels .entry)) (now (scores .entry)) (length (now (keys .entry))) (length (now (spare .entry))) (length (now (q .entry)))) ⌝ }
+{
+    let answer = precursor::picked_precursor(labels, scores, keys, spare, q);
+    *count = columns::counted_count(answer);
+    columns::counted_number(answer)
+}
+
+#[no_mangle]
+pub extern "C" fn vayemuku_precursor_ranks(
+    scores: &[f64],
+    keys: &mut [u64],
+    spare: &mut [u64],
+    ranks: &mut [u32],
+) -> u32
+    ensures number { λ r. ⌜ r ≡ outcomeNumber (ranksAnswer (length (now (scores .entry))) (length (now (keys .entry))) (length (now (spare .entry))) (length (now (ranks .entry)))) ⌝ }
+    ensures keys { λ _. ⌜ now (keys .exit) ≡ filled 0 (now (keys .entry)) ⌝ }
+    ensures spare { λ _. ⌜ now (spare .exit) ≡ filled 0 (now (spare .entry)) ⌝ }
+    ensures column { λ _. ⌜ now (ranks .exit) ≡ ranksColumn (now (scores .entry)) (length (now (keys .entry))) (length (now (spare .entry))) (now (ranks .entry)) ⌝ }
+{
+    columns::outcome_number(precursor::precursor_ranks(scores, keys, spare, ranks))
+}
+
+// The ranking alone: keys in ascending order, and 0 in `spare`. Refusals 1 and 2 leave 0 in both.
+#[no_mangle]
+pub extern "C" fn vayemuku_rank_keys(keys: &mut [u64], spare: &mut [u64]) -> u32
+    ensures number { λ r. ⌜ r ≡ keysNumber (length (now (keys .entry))) (length (now (spare .entry))) ⌝ }
+    ensures keys { λ _. ⌜ now (keys .exit) ≡ keysColumn (now (keys .entry)) (length (now (spare .entry))) ⌝ }
+    ensures spare { λ _. ⌜ now (spare .exit) ≡ filled 0 (now (spare .entry)) ⌝ }
+{
+    if columns::LONGEST < keys.len() {
+        columns::clear(keys, spare);
+        return 1;
+    }
+    if spare.len() != keys.len() {
+        columns::clear(keys, spare);
+        return 2;
+    }
+    ranking::sort(keys, spare);
+    columns::fill_u64(spare, 0);
+    0
+}
+
+// Module 7, the line check.
+
+// A line's answer as numbers.
+pub struct LineNumbers {
+    pub number: u32,
+    pub right: u32,
+    pub row: usize,
+    pub decoys: usize,
+    pub targets: usize,
+}
+
+fn line_numbers(line: Line) -> LineNumbers
+    ensures { λ r. ⌜ r ≡ numbersOf line ⌝ }
+{
+    match line {
+        Line::Right(c) => LineNumbers {
+            number: 0,
+            right: 1,
+            row: c.row,
+            decoys: c.decoys,
+            targets: c.targets,
+        },
+        Line::Wrong(c) => LineNumbers {
+            number: 0,
+            right: 0,
+            row: c.row,
+            decoys: c.decoys,
+            targets: c.targets,
+        },
+        Line::Refused(refusal) => LineNumbers {
+            number: columns::number(refusal),
+            right: 0,
+            row: 0,
+            decoys: 0,
+            targets: 0,
+        },
+    }
+}
+
+// At one in 100: `right` gets 1 or 0, and the others the three counts of the answer.
+#[no_mangle]
+pub extern "C" fn vayemuku_check_line_100(
+    labels: &[i32],
+    line: usize,
+    right: &mut u32,
+    row: &mut usize,
+    decoys: &mut usize,
+    targets: &mut usize,
+) -> u32
+    ensures number { λ r. ⌜ r ≡ numbersOf (lineAnswer 100 (now (labels .entry)) line) .number ⌝ }
+    ensures right { λ _. ⌜ now (right .exit) ≡ numbersOf (lineAnswer 100 (now (labels .entry)) line) .right ⌝ }
+    ensures row { λ _. ⌜ now (row .exit) ≡ numbersOf (lineAnswer 100 (now (labels .entry)) line) .row ⌝ }
+    ensures decoys { λ _. ⌜ now (decoys .exit) ≡ numbersOf (lineAnswer 100 (now (labels .entry)) line) .decoys ⌝ }
+    ensures targets { λ _. ⌜ now (targets .exit) ≡ numbersOf (lineAnswer 100 (now (labels .entry)) line) .targets ⌝ }
+{
+    let told = line_numbers(line_check::check_line(labels, line, Rate::OneIn100));
+    *right = told.right;
+    *row = told.row;
+    *decoys = told.decoys;
+    *targets = told.targets;
+    told.number
+}
+
+// At one in 20, likewise.
+#[no_mangle]
+pub extern "C" fn vayemuku_check_line_20(
+    labels: &[i32],
+    line: usize,
+    right: &mut u32,
+    row: &mut usize,
+    decoys: &mut usize,
+    targets: &mut usize,
+) -> u32
+    ensures number { λ r. ⌜ r ≡ numbersOf (lineAnswer 20 (now (labels .entry)) line) .number ⌝ }
+    ensures right { λ _. ⌜ now (right .exit) ≡ numbersOf (lineAnswer 20 (now (labels .entry)) line) .right ⌝ }
+    ensures row { λ _. ⌜ now (row .exit) ≡ numbersOf (lineAnswer 20 (now (labels .entry)) line) .row ⌝ }
+    ensures decoys { λ _. ⌜ now (decoys .exit) ≡ numbersOf (lineAnswer 20 (now (labels .entry)) line) .decoys ⌝ }
+    ensures targets { λ _. ⌜ now (targets .exit) ≡ numbersOf (lineAnswer 20 (now (labels .entry)) line) .targets ⌝ }
+{
+    let told = line_numbers(line_check::check_line(labels, line, Rate::OneIn20));
+    *right = told.right;
+    *row = told.row;
+    *decoys = told.decoys;
+    *targets = told.targets;
+    told.number
 }

@@ -3,13 +3,13 @@
 use native.Mathlib.Omega.{arith}
 use borrow.Author.Needs.{needs}
 use lib.Dec.{ltb}
-use Rattle.kde.proofs.Counts.{bit-le}
+use Rattle.folds.proofs.Tests.{byte-most}
 use Rattle.kde.proofs.Steps.{upper-bin}
 use Rattle.kde.proofs.upper_bin.Statement.{statement}
 use Rattle.kde.proofs.upper_bin.Tie as tie
 
 add-result : tie.Need-add-result
-add-result c = let one = bit-le (ltb (c .args .bin-lo) (c .args .last)) in record { fits = omega arith }
+add-result c = let one = byte-most (ltb (c .args .bin-lo) (c .args .last)) in record { fits = omega arith }
 
 returns : tie.Need-returns
 returns c = upper-bin (c .args .bin-lo) (c .args .last) (search needs)

@@ -3,7 +3,7 @@ use Prim.Native.Nat.{_-_, _≤_}
 use lib.Dec.{eqb}
 use lib.ListN.{length}
 use borrow.Author.Needs.{needs}
-use Rattle.counting.proofs.Tally.{bit-small}
+use Rattle.folds.proofs.Tests.{byte-most}
 use Rattle.known_points.proofs.count_bits.Statement.{statement}
 use Rattle.known_points.proofs.count_bits.Tie as tie
 
@@ -14,10 +14,10 @@ abbrev μ-loop : tie.MeasureT-loop
 μ-loop column bits count₀ i₀ i-end count i = length column - i
 
 add-count : tie.Need-add-count Inv-loop μ-loop
-add-count c = let h = bit-small (eqb (c .bits-32 .result) (c .before .before .before .before .before .args .bits)) in search needs
+add-count c = let h = byte-most (eqb (c .bits-32 .result) (c .before .before .before .before .before .args .bits)) in search needs
 
 loop-again : tie.Need-loop-again Inv-loop μ-loop
-loop-again c = let h = bit-small (eqb (c .bits-32 .result) (c .before .before .before .before .before .args .bits)) in search needs
+loop-again c = let h = byte-most (eqb (c .bits-32 .result) (c .before .before .before .before .before .args .bits)) in search needs
 
 pub count-bits-spec : {M : Type 1} → statement M
 count-bits-spec =

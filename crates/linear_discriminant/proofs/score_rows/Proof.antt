@@ -3,7 +3,8 @@ use Prim.Native.Nat.{_*_}
 use native.Mathlib.Omega.{arith}
 use lib.ListN.{length}
 use borrow.Author.Needs.{needs}
-use Rattle.linear_discriminant.proofs.Lengths.{not-true, not-false, unequal, equal}
+use borrow.Author.Tests.{not-true, not-false}
+use Rattle.linear_discriminant.proofs.Lengths.{unequal, equal}
 use Rattle.linear_discriminant.proofs.Runs.{too-long, wrong-length, not-finite, accepted}
 use Rattle.linear_discriminant.proofs.score_rows.Statement.{statement}
 use Rattle.linear_discriminant.proofs.score_rows.Tie as tie

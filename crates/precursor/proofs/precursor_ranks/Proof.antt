@@ -1,7 +1,7 @@
 -- `precursor::precursor_ranks` meets its contract: each way out is a law of proofs/Joined.antt, by the answers to the two questions. Assumes nothing.
 use mathlib.Core.Path.{sym, _∙_}
 use borrow.Author.Needs.{needs}
-use Rattle.folds.proofs.Tests.{no-is, yes-is}
+use borrow.Author.Tests.{not-true, not-false}
 use Rattle.precursor.proofs.Joined.{ranks-too-long, ranks-wrong, ranks-fine, ranks-pass}
 use Rattle.precursor.proofs.precursor_ranks.Statement.{statement}
 use Rattle.precursor.proofs.precursor_ranks.Tie as tie
@@ -14,17 +14,17 @@ returns c =
 returns-2 : tie.Need-returns-2
 returns-2 c =
     let w = ranks-wrong (c .before .before .before .before .before .before .before .before .before .before .before .before .before .before .before .before .before .args .scores .now) (c .before .before .before .before .before .before .before .before .before .before .before .before .before .before .before .before .before .args .keys .now) (c .before .before .before .before .before .before .before .before .before .before .before .before .before .before .before .before .before .args .spare .now) (c .before .before .before .before .before .before .before .before .before .before .before .before .before .before .before .before .before .args .ranks .now)
-    _ (c .before .before .before .before .before .before .before .before .before .before .before .before .if1 .left) (sym (c .before .before .before .before .before .before .before .before .before .before .before .columns-fit .ensures) ∙ no-is _ (c .before .before .before .before .before .before .before .before .before .before .if2 .taken)) (c .before .before .before .before .before .before .blank-ranks2 .ensures .1 .1) in
+    _ (c .before .before .before .before .before .before .before .before .before .before .before .before .if1 .left) (sym (c .before .before .before .before .before .before .before .before .before .before .before .columns-fit .ensures) ∙ not-true _ (c .before .before .before .before .before .before .before .before .before .before .if2 .taken)) (c .before .before .before .before .before .before .blank-ranks2 .ensures .1 .1) in
     (w .answer, (w .column, (c .before .before .before .before .before .before .blank-ranks2 .ensures .0, c .before .before .before .before .before .before .blank-ranks2 .ensures .1 .0)))
 
 rank-requires : tie.Need-rank-requires
 rank-requires c κs =
-    ranks-pass (c .before .before .before .before .before .before .before .before .before .before .args .scores .now) (c .before .before .before .before .before .before .before .before .before .before .args .keys .now) (c .before .before .before .before .before .before .before .before .before .before .args .spare .now) (c .before .before .before .before .before .before .before .before .before .before .args .ranks .now) (c .before .before .before .before .before .if1 .left) (sym (c .before .before .before .before .columns-fit .ensures) ∙ yes-is _ (c .before .before .before .if2 .left))
+    ranks-pass (c .before .before .before .before .before .before .before .before .before .before .args .scores .now) (c .before .before .before .before .before .before .before .before .before .before .args .keys .now) (c .before .before .before .before .before .before .before .before .before .before .args .spare .now) (c .before .before .before .before .before .before .before .before .before .before .args .ranks .now) (c .before .before .before .before .before .if1 .left) (sym (c .before .before .before .before .columns-fit .ensures) ∙ not-false _ (c .before .before .before .if2 .left))
 
 returns-3 : tie.Need-returns-3
 returns-3 c =
     let w = ranks-fine (c .before .before .before .before .before .before .before .before .before .before .before .before .before .before .before .before .before .args .scores .now) (c .before .before .before .before .before .before .before .before .before .before .before .before .before .before .before .before .before .args .keys .now) (c .before .before .before .before .before .before .before .before .before .before .before .before .before .before .before .before .before .args .spare .now) (c .before .before .before .before .before .before .before .before .before .before .before .before .before .before .before .before .before .args .ranks .now)
-    _ (c .before .before .before .before .before .before .before .before .before .before .before .before .if1 .left) (sym (c .before .before .before .before .before .before .before .before .before .before .before .columns-fit .ensures) ∙ yes-is _ (c .before .before .before .before .before .before .before .before .before .before .if2 .left)) (c .before .before .before .before .before .before .rank .ensures .0) in
+    _ (c .before .before .before .before .before .before .before .before .before .before .before .before .if1 .left) (sym (c .before .before .before .before .before .before .before .before .before .before .before .columns-fit .ensures) ∙ not-false _ (c .before .before .before .before .before .before .before .before .before .before .if2 .left)) (c .before .before .before .before .before .before .rank .ensures .0) in
     (w .answer, (w .column, (c .before .before .before .before .before .before .rank .ensures .1 .0, c .before .before .before .before .before .before .rank .ensures .1 .1)))
 
 pub precursor-ranks-spec : {M : Type 1} → statement M

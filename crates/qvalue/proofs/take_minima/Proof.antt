@@ -3,10 +3,10 @@
 use native.Mathlib.Omega.{arith}
 use borrow.Author.Needs.{needs}
 use lib.Ieee.{binary32, ofBits, le}
+use Rattle.folds.proofs.Tests.{byte-most}
 use Rattle.floats.specs.Ratio.{oneIn}
 use Rattle.floats.proofs.Ratio.{one-in-100}
 use Rattle.counting.proofs.Columns.{Lowered, lowered-start, lowered-next, lowered-number, lowered-within, lowered-done}
-use Rattle.counting.proofs.Tally.{bit-small}
 use Rattle.qvalue.proofs.take_minima.Statement.{statement}
 use Rattle.qvalue.proofs.take_minima.Tie as tie
 
@@ -24,7 +24,7 @@ lower-requires c κs = lowered-number (c .before .before .loop .inv)
 
 add-passing : tie.Need-add-passing Inv-loop μ-loop
 add-passing c =
-    omega (arith, lowered-within (c .before .before .before .loop .inv), bit-small (le (c .lower .result) (ofBits binary32 1008981770)))
+    omega (arith, lowered-within (c .before .before .before .loop .inv), byte-most (le (c .lower .result) (ofBits binary32 1008981770)))
 
 loop-again : tie.Need-loop-again Inv-loop μ-loop
 loop-again c = rw (← one-in-100) (lowered-next _ (omega arith) (c .before .before .before .loop .inv) (c .lower .ensures))
