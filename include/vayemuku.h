@@ -144,10 +144,10 @@ uint32_t vayemuku_precursor_ranks(const double *scores, size_t scores_len, uint6
 /* The ranking alone: keys in ascending order; spare is as long and holds 0 afterwards. Refusals: 1, 2, which leave 0 in both. */
 uint32_t vayemuku_rank_keys(uint64_t *keys, size_t keys_len, uint64_t *spare, size_t spare_len);
 
-/* Module 7: whether a line of a ranked list is right, at one in 100 and at one in 20. *right gets 1 or 0; *row, *decoys (plus one) and *targets
+/* Module 7: whether a line of a ranked list is right, at one in 100 and at one in 20. *right gets 1 or 0; *row, *decoys_plus_one and *targets
  * the numbers of the line if it is right, else of the last later row that qualifies or, if none does, of the line. Refusals: 1, 9 a line past the list. */
-uint32_t vayemuku_check_line_100(const int32_t *labels, size_t labels_len, size_t line, uint32_t *right, size_t *row, size_t *decoys, size_t *targets);
-uint32_t vayemuku_check_line_20(const int32_t *labels, size_t labels_len, size_t line, uint32_t *right, size_t *row, size_t *decoys, size_t *targets);
+uint32_t vayemuku_check_line_100(const int32_t *labels, size_t labels_len, size_t line, uint32_t *right, size_t *row, size_t *decoys_plus_one, size_t *targets);
+uint32_t vayemuku_check_line_20(const int32_t *labels, size_t labels_len, size_t line, uint32_t *right, size_t *row, size_t *decoys_plus_one, size_t *targets);
 
 #ifdef __cplusplus
 }

@@ -207,7 +207,7 @@ unsafe extern "C" {
         line: usize,
         right: *mut u32,
         row: *mut usize,
-        decoys: *mut usize,
+        decoys_plus_one: *mut usize,
         targets: *mut usize,
     ) -> u32;
     pub fn vayemuku_check_line_20(
@@ -216,7 +216,7 @@ unsafe extern "C" {
         line: usize,
         right: *mut u32,
         row: *mut usize,
-        decoys: *mut usize,
+        decoys_plus_one: *mut usize,
         targets: *mut usize,
     ) -> u32;
 }

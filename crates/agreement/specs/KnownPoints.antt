@@ -40,7 +40,7 @@ abbrev pub thenDecoy : ℕ → List ℤ
 thenDecoy n = replicate n target ++ (decoy ∷ [])
 
 abbrev pub counts : ℕ → ℕ → ℕ → Counts
-counts row decoys targets = record { row = row; decoys = decoys; targets = targets }
+counts row decoys targets = record { row = row; «decoys_plus_one» = decoys; targets = targets }
 
 abbrev pub estimator : Float → Float → Estimator
 estimator least step = record { «min_score» = least; «score_step» = step }

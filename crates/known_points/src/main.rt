@@ -54,13 +54,13 @@ fn told_line(answer: Line) {
         Line::Right(c) => {
             text(b" right");
             number(c.row);
-            number(c.decoys);
+            number(c.decoys_plus_one);
             number(c.targets);
         }
         Line::Wrong(c) => {
             text(b" wrong");
             number(c.row);
-            number(c.decoys);
+            number(c.decoys_plus_one);
             number(c.targets);
         }
         Line::Refused(refusal) => {

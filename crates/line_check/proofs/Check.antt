@@ -90,8 +90,8 @@ module _ (per : ℕ) (labels : List ℤ) (line : ℕ) where
       last-row : last .row ≡ max line (rightLine per labels)
       last-row = ap (λ (c : Counts). c .row) last-is
 
-      own-test : leb (per * own .decoys) (own .targets) ≡ qualifies per labels line
-      own-test = ap (λ (c : Counts). leb (per * c .decoys) (c .targets)) o
+      own-test : leb (per * own .«decoys_plus_one») (own .targets) ≡ qualifies per labels line
+      own-test = ap (λ (c : Counts). leb (per * c .«decoys_plus_one») (c .targets)) o
 
       wrong : (line ≡ rightLine per labels → ⊥) → Wrong last ≡ lineAnswer per labels line
       wrong n = ap Wrong last-is ∙ sym (wrong-is n)
@@ -105,13 +105,13 @@ module _ (per : ℕ) (labels : List ℤ) (line : ℕ) where
       pub no-row : last .row ≤ line → line ≡ 0 → Right own ≡ lineAnswer per labels line
       no-row h e = right (omega (arith, last-row))
 
-      pub own-fails : (line ≡ 0 → ⊥) → own .targets < per * own .decoys → Wrong last ≡ lineAnswer per labels line
+      pub own-fails : (line ≡ 0 → ⊥) → own .targets < per * own .«decoys_plus_one» → Wrong last ≡ lineAnswer per labels line
       own-fails n h = wrong (λ (e : line ≡ rightLine per labels). elim (last-own (qualifies per labels) (length labels)) [
         | inl z ↦ n (e ∙ z)
-        | inr t ↦ false≢true (sym (lt-leb (per * own .decoys) (own .targets) h) ∙ own-test ∙ ap (qualifies per labels) e ∙ t)
+        | inr t ↦ false≢true (sym (lt-leb (per * own .«decoys_plus_one») (own .targets) h) ∙ own-test ∙ ap (qualifies per labels) e ∙ t)
       ])
 
-      pub own-qualifies : last .row ≤ line → per * own .decoys ≤ own .targets → Right own ≡ lineAnswer per labels line
+      pub own-qualifies : last .row ≤ line → per * own .«decoys_plus_one» ≤ own .targets → Right own ≡ lineAnswer per labels line
       own-qualifies h k =
-          let q : qualifies per labels line ≡ true = sym own-test ∙ le-leb (per * own .decoys) (own .targets) k in
+          let q : qualifies per labels line ≡ true = sym own-test ∙ le-leb (per * own .«decoys_plus_one») (own .targets) k in
           right (omega (arith, last-row, last-upper (qualifies per labels) (length labels) line q within))

@@ -21,19 +21,19 @@ use Rattle.line_check.specs.declared.Counts.{Counts}
 -- ---- the counts at a row, as a struct
 
 pub counts-at : {labels : List ℤ} {i decoy target : ℕ} (row : ℕ) → Tally labels i decoy target → i ≡ row
-    → _≡_ {A = Counts} (record { row = row; decoys = decoy; targets = target }) (countsAt labels row)
+    → _≡_ {A = Counts} (record { row = row; «decoys_plus_one» = decoy; targets = target }) (countsAt labels row)
 counts-at row t e = rw (← e, t .decoy-is, t .target-is)
 
-pub tally-of : (labels : List ℤ) (c : Counts) → c .row ≤ length labels → c ≡ countsAt labels (c .row) → Tally labels (c .row) (c .decoys) (c .targets)
-tally-of labels c h e = record { high = h; decoy-is = ap (λ (x : Counts). x .decoys) e; target-is = ap (λ (x : Counts). x .targets) e }
+pub tally-of : (labels : List ℤ) (c : Counts) → c .row ≤ length labels → c ≡ countsAt labels (c .row) → Tally labels (c .row) (c .«decoys_plus_one») (c .targets)
+tally-of labels c h e = record { high = h; decoy-is = ap (λ (x : Counts). x .«decoys_plus_one») e; target-is = ap (λ (x : Counts). x .targets) e }
 
 module _ (labels : List ℤ) {c : Counts} (row : ℕ) (h : row ≤ length labels) (e : c ≡ countsAt labels row) where
   -- the struct tells its own row
   pub own-row : (c .row ≤ length labels) × (c ≡ countsAt labels (c .row))
   own-row = let r : c .row ≡ row = ap (λ (x : Counts). x .row) e in (rw r h, e ∙ ap (countsAt labels) (sym r))
 
-  pub decoys-small : length labels ≤ 16777215 → c .decoys ≤ 16777216
-  decoys-small s = omega (arith, ap (λ (x : Counts). x .decoys) e, row-counts row labels)
+  pub decoys-small : length labels ≤ 16777215 → c .«decoys_plus_one» ≤ 16777216
+  decoys-small s = omega (arith, ap (λ (x : Counts). x .«decoys_plus_one») e, row-counts row labels)
 
 -- a count times the rate fits
 pub product-fits : (per n : ℕ) → per ≤ 100 → n ≤ 16777216 → Fits w64 (per * n)
@@ -74,7 +74,7 @@ module _ {per : ℕ} {labels : List ℤ} {line last last-decoy last-target decoy
 
 pub later-done : {per : ℕ} {labels : List ℤ} {line last last-decoy last-target decoy target i : ℕ}
     → Later per labels line last last-decoy last-target decoy target i → length labels ≤ i
-    → _≡_ {A = Counts} (record { row = last; decoys = last-decoy; targets = last-target }) (countsAt labels (max line (rightLine per labels)))
+    → _≡_ {A = Counts} (record { row = last; «decoys_plus_one» = last-decoy; targets = last-target }) (countsAt labels (max line (rightLine per labels)))
 later-done {per} {labels} {line} {last} {i = i} w h =
     let g = w .so-far .high in
     let e : i ≡ length labels = omega arith in

@@ -23,7 +23,7 @@ perOf OneIn20 = 20
 
 -- "Each answer carries a row, decoys plus one, and targets up to it."
 abbrev pub countsAt : List ℤ → ℕ → Counts
-countsAt labels row = record { row = row; decoys = decoys (take row labels) + 1; targets = targets (take row labels) }
+countsAt labels row = record { row = row; «decoys_plus_one» = decoys (take row labels) + 1; targets = targets (take row labels) }
 
 -- Questions 1 and 9, and then the answer. Where a later row qualifies, the right line is past this one.
 unfoldable pub lineAnswer : ℕ → List ℤ → ℕ → Line

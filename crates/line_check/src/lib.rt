@@ -17,7 +17,7 @@ pub enum Rate {
 // A row, and the decoys plus one and the targets up to it.
 pub struct Counts {
     pub row: usize,
-    pub decoys: usize,
+    pub decoys_plus_one: usize,
     pub targets: usize,
 }
 
@@ -55,7 +55,7 @@ fn count_to(labels: &[i32], row: usize) -> Counts
     }
     Counts {
         row,
-        decoys,
+        decoys_plus_one: decoys,
         targets,
     }
 }
@@ -69,9 +69,9 @@ fn last_later(labels: &[i32], own: Counts, per: usize) -> Counts
     ensures { λ r. ⌜ r ≡ countsAt (now (labels .entry)) (max (own .row) (rightLine per (now (labels .entry)))) ⌝ }
 {
     let mut last_row = own.row;
-    let mut last_decoys = own.decoys;
+    let mut last_decoys = own.decoys_plus_one;
     let mut last_targets = own.targets;
-    let mut decoys = own.decoys;
+    let mut decoys = own.decoys_plus_one;
     let mut targets = own.targets;
     let mut i = own.row;
     while i < labels.len() {
@@ -88,7 +88,7 @@ fn last_later(labels: &[i32], own: Counts, per: usize) -> Counts
     }
     Counts {
         row: last_row,
-        decoys: last_decoys,
+        decoys_plus_one: last_decoys,
         targets: last_targets,
     }
 }
@@ -108,7 +108,7 @@ fn judged(labels: &[i32], line: usize, per: usize) -> Line
     if line == 0 {
         return Line::Right(own);
     }
-    if own.targets < per * own.decoys {
+    if own.targets < per * own.decoys_plus_one {
         return Line::Wrong(last);
     }
     Line::Right(own)

@@ -29,9 +29,9 @@ signOf Greater = pos 1
 
 -- Document 01's number and values of a line's answer: 1 for right and 0 for wrong, with the three counts; after a refusal all are 0 but the number.
 abbrev pub numbersOf : Line → LineNumbers
-numbersOf (Right c) = record { number = 0; right = 1; row = c .row; decoys = c .decoys; targets = c .targets }
-numbersOf (Wrong c) = record { number = 0; right = 0; row = c .row; decoys = c .decoys; targets = c .targets }
-numbersOf (Refused r) = record { number = numberOf r; right = 0; row = 0; decoys = 0; targets = 0 }
+numbersOf (Right c) = record { number = 0; right = 1; row = c .row; «decoys_plus_one» = c .«decoys_plus_one»; targets = c .targets }
+numbersOf (Wrong c) = record { number = 0; right = 0; row = c .row; «decoys_plus_one» = c .«decoys_plus_one»; targets = c .targets }
+numbersOf (Refused r) = record { number = numberOf r; right = 0; row = 0; «decoys_plus_one» = 0; targets = 0 }
 
 -- Questions 1 and 2 of the bare ranking: the number, and the keys afterwards.
 unfoldable pub keysNumber : ℕ → ℕ → ℕ

@@ -675,7 +675,7 @@ pub struct LineNumbers {
     pub number: u32,
     pub right: u32,
     pub row: usize,
-    pub decoys: usize,
+    pub decoys_plus_one: usize,
     pub targets: usize,
 }
 
@@ -687,21 +687,21 @@ fn line_numbers(line: Line) -> LineNumbers
             number: 0,
             right: 1,
             row: c.row,
-            decoys: c.decoys,
+            decoys_plus_one: c.decoys_plus_one,
             targets: c.targets,
         },
         Line::Wrong(c) => LineNumbers {
             number: 0,
             right: 0,
             row: c.row,
-            decoys: c.decoys,
+            decoys_plus_one: c.decoys_plus_one,
             targets: c.targets,
         },
         Line::Refused(refusal) => LineNumbers {
             number: columns::number(refusal),
             right: 0,
             row: 0,
-            decoys: 0,
+            decoys_plus_one: 0,
             targets: 0,
         },
     }
@@ -714,19 +714,19 @@ pub extern "C" fn vayemuku_check_line_100(
     line: usize,
     right: &mut u32,
     row: &mut usize,
-    decoys: &mut usize,
+    decoys_plus_one: &mut usize,
     targets: &mut usize,
 ) -> u32
     ensures number { λ r. ⌜ r ≡ numbersOf (lineAnswer 100 (now (labels .entry)) line) .number ⌝ }
     ensures right { λ _. ⌜ now (right .exit) ≡ numbersOf (lineAnswer 100 (now (labels .entry)) line) .right ⌝ }
     ensures row { λ _. ⌜ now (row .exit) ≡ numbersOf (lineAnswer 100 (now (labels .entry)) line) .row ⌝ }
-    ensures decoys { λ _. ⌜ now (decoys .exit) ≡ numbersOf (lineAnswer 100 (now (labels .entry)) line) .decoys ⌝ }
+    ensures decoys { λ _. ⌜ now («decoys_plus_one» .exit) ≡ numbersOf (lineAnswer 100 (now (labels .entry)) line) .«decoys_plus_one» ⌝ }
     ensures targets { λ _. ⌜ now (targets .exit) ≡ numbersOf (lineAnswer 100 (now (labels .entry)) line) .targets ⌝ }
 {
     let told = line_numbers(line_check::check_line(labels, line, Rate::OneIn100));
     *right = told.right;
     *row = told.row;
-    *decoys = told.decoys;
+    *decoys_plus_one = told.decoys_plus_one;
     *targets = told.targets;
     told.number
 }
@@ -738,19 +738,19 @@ pub extern "C" fn vayemuku_check_line_20(
     line: usize,
     right: &mut u32,
     row: &mut usize,
-    decoys: &mut usize,
+    decoys_plus_one: &mut usize,
     targets: &mut usize,
 ) -> u32
     ensures number { λ r. ⌜ r ≡ numbersOf (lineAnswer 20 (now (labels .entry)) line) .number ⌝ }
     ensures right { λ _. ⌜ now (right .exit) ≡ numbersOf (lineAnswer 20 (now (labels .entry)) line) .right ⌝ }
     ensures row { λ _. ⌜ now (row .exit) ≡ numbersOf (lineAnswer 20 (now (labels .entry)) line) .row ⌝ }
-    ensures decoys { λ _. ⌜ now (decoys .exit) ≡ numbersOf (lineAnswer 20 (now (labels .entry)) line) .decoys ⌝ }
+    ensures decoys { λ _. ⌜ now («decoys_plus_one» .exit) ≡ numbersOf (lineAnswer 20 (now (labels .entry)) line) .«decoys_plus_one» ⌝ }
     ensures targets { λ _. ⌜ now (targets .exit) ≡ numbersOf (lineAnswer 20 (now (labels .entry)) line) .targets ⌝ }
 {
     let told = line_numbers(line_check::check_line(labels, line, Rate::OneIn20));
     *right = told.right;
     *row = told.row;
-    *decoys = told.decoys;
+    *decoys_plus_one = told.decoys_plus_one;
     *targets = told.targets;
     told.number
 }

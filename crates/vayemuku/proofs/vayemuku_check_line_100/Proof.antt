@@ -14,7 +14,7 @@ returns c =
       ap (λ (n : LineNumbers). n .number) told,
       (
         ap (λ (n : LineNumbers). n .right) told,
-        (ap (λ (n : LineNumbers). n .row) told, (ap (λ (n : LineNumbers). n .decoys) told, ap (λ (n : LineNumbers). n .targets) told)),
+        (ap (λ (n : LineNumbers). n .row) told, (ap (λ (n : LineNumbers). n .«decoys_plus_one») told, ap (λ (n : LineNumbers). n .targets) told)),
       ),
     )
 
