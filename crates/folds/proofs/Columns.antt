@@ -159,6 +159,14 @@ writing-done {A} {f} {d} {n} {column} {i} w h =
     let g : k < n = subst (λ (m : ℕ). k < m) (w .same) l in
     w .is k (lt-of-lt-of-le g h) ∙ ap f (sym (zero-add k)) ∙ sym (getD-tabulated f 0 n k d g))
 
+-- the same where the loop asks for the column's own length
+pub writing-next : {A : Type 0} {f : ℕ → A} {d : A} {n : ℕ} {column : List A} {i : ℕ} (v : A) → Writing f d n column i → i < length column → v ≡ f i
+    → Writing f d n (set column i v) (i + 1)
+writing-next {i = i} v w h e = writing-step w (subst (λ (m : ℕ). i < m) (w .same) h) e
+
+pub writing-all : {A : Type 0} {f : ℕ → A} {d : A} {n : ℕ} {column : List A} {i : ℕ} → Writing f d n column i → length column ≤ i → column ≡ tabulated f 0 n
+writing-all {i = i} w h = writing-done w (subst (λ (m : ℕ). m ≤ i) (w .same) h)
+
 -- ---- entries rewritten from the front, up to a width
 
 pub record Rewriting {A : Type 0} (old new : ℕ → A) (d : A) (n : ℕ) (column : List A) (i : ℕ) : Type 0 where

@@ -1,65 +1,20 @@
--- Loops over columns, as records whose parameters are inferred: a column that is written from the front with a function of the place,
--- a list that is folded from the front, and the running maximum from the back. Assumes nothing.
+-- Loops over columns, as records whose parameters are inferred: a list that is folded from the front, and the running maximum from the
+-- back. Assumes nothing.
 use mathlib.Core.Path.{_≡_, refl, sym, ap, _∙_}
 use mathlib.Core.List.{List, [], _∷_, _++_, append-assoc, append-nil, map}
-use Prim.Native.Nat.{ℕ, zero, suc, _+_, _-_, _≤_, _<_, zero-le}
+use Prim.Native.Nat.{ℕ, zero, suc, _+_, _≤_, _<_, zero-le}
 use native.Mathlib.Nat.{le-refl}
 use native.Mathlib.Numerals.{add-one}
 use native.Mathlib.Omega.{arith}
 use lib.ListN.{length, getD, take, drop, set, length-set}
-use lib.Seq.{take-length, take-all, take-suc, drop-cons, drop-length, set-at, getD-at, length-take-le}
+use lib.Seq.{take-length, take-suc, drop-cons, drop-length, set-at, getD-at, length-take-le}
 use lib.Ieee.{Float, nan}
 use Rattle.folds.specs.Columns.{tabulated}
-use Rattle.folds.proofs.Columns.{front-write}
 use Rattle.floats.specs.Least.{greater}
 use Rattle.kde.specs.Bins.{folded, raisedFrom}
 
--- ---- written from the front: the first i of n places hold f
+-- ---- tabulated with a function of the element, at each place of a list
 
-pub record Tabling {A : Type 0} (f : ℕ → A) (n : ℕ) (column : List A) (i : ℕ) : Type 0 where
-  pub same : length column ≡ n
-  pub high : i ≤ n
-  pub is : take i column ++ tabulated f i (n - i) ≡ tabulated f 0 n
-
-tabulated-none : {A : Type 0} (f : ℕ → A) (a k : ℕ) → k ≡ 0 → tabulated f a k ≡ []
-unfolding tabulated
-tabulated-none f a k e = ap (tabulated f a) e
-
-tabulated-more : {A : Type 0} (f : ℕ → A) (a k l : ℕ) → k ≡ suc l → tabulated f a k ≡ f a ∷ tabulated f (suc a) l
-unfolding tabulated
-tabulated-more f a k l e = ap (tabulated f a) e
-
-pub tabling-start : {A : Type 0} (f : ℕ → A) (column : List A) → Tabling f (length column) column 0
-tabling-start f column = record { same = refl; high = zero-le; is = ap (tabulated f 0) (whole (length column)) }
-  where
-    whole : (n : ℕ) → n - 0 ≡ n
-    whole n = omega arith
-
-pub tabling-step : {A : Type 0} {f : ℕ → A} {n : ℕ} {column : List A} {i : ℕ} (v : A) → Tabling f n column i → i < length column → v ≡ f i
-    → Tabling f n (set column i v) (i + 1)
-tabling-step {A} {f} {n} {column} {i} v w h e =
-    let s = w .same in
-    let l : n - i ≡ suc (n - (i + 1)) = omega arith in
-    record {
-      same = length-set column i v ∙ s;
-      high = omega arith;
-      is = front-write i column (tabulated f (i + 1) (n - (i + 1))) v h
-          ∙ ap (λ (x : A). take i column ++ (x ∷ tabulated f (i + 1) (n - (i + 1)))) e
-          ∙ ap (λ (x : ℕ). take i column ++ (f i ∷ tabulated f x (n - (i + 1)))) (add-one i)
-          ∙ ap (λ (t : List A). take i column ++ t) (sym (tabulated-more f i (n - i) (n - (i + 1)) l))
-          ∙ w .is;
-    }
-
-pub tabling-done : {A : Type 0} {f : ℕ → A} {n : ℕ} {column : List A} {i : ℕ} → Tabling f n column i → length column ≤ i → column ≡ tabulated f 0 n
-tabling-done {A} {f} {n} {column} {i} w h =
-    let s = w .same in
-    let l : n - i ≡ 0 = omega arith in
-    sym (append-nil column)
-    ∙ ap (λ (t : List A). t ++ []) (sym (take-all i column h))
-    ∙ ap (λ (t : List A). take i column ++ t) (sym (tabulated-none f i (n - i) l))
-    ∙ w .is
-
--- a function of the element, at each place of a list
 tabulated-shift : {A : Type 0} (f : ℕ → A) (a k : ℕ) → tabulated f (suc a) k ≡ tabulated (λ (i : ℕ). f (suc i)) a k
 unfolding tabulated
 tabulated-shift f a zero = refl

@@ -1,31 +1,31 @@
--- `kde::mix` meets its contract: the column is written from the front (`Tabling`), by the definition's own operations.
+-- `kde::mix` meets its contract: the column is written from the front (`Writing`), by the definition's own operations.
 -- Assumes nothing.
 use mathlib.Core.Path.{refl}
 use Prim.Native.Nat.{_-_}
 use lib.ListN.{length}
-use lib.Ieee.{ofBits}
-use Rattle.kde.proofs.Columns.{Tabling, tabling-start, tabling-step, tabling-done}
+use lib.Ieee.{ofBits, nan}
+use Rattle.folds.proofs.Columns.{Writing, writing-start, writing-next, writing-all}
 use Rattle.kde.specs.Bins.{binAt, mixed}
 use borrow.Author.Needs.{needs}
 use Rattle.kde.proofs.mix.Statement.{statement}
 use Rattle.kde.proofs.mix.Tie as tie
 
 abbrev Inv-loop : tie.InvT-loop
-Inv-loop pi decoy-density target-density bins₀ bin₀ bins bin = Tabling (binAt pi decoy-density target-density) (length bins₀) bins bin
+Inv-loop pi decoy-density target-density bins₀ bin₀ bins bin = Writing (binAt pi decoy-density target-density) nan (length bins₀) bins bin
 
 abbrev μ-loop : tie.MeasureT-loop
 μ-loop pi decoy-density target-density bins₀ bin₀ bins bin = length bins₀ - bin
 
 loop-holds : tie.Need-loop-holds Inv-loop μ-loop
-loop-holds c = tabling-start _ _
+loop-holds c = writing-start refl
 
 loop-again : tie.Need-loop-again Inv-loop μ-loop
 unfolding ofBits
-loop-again c = tabling-step _ (c .before .before .before .loop .inv) (c .before .before .loop-test .taken) refl
+loop-again c = writing-next _ (c .before .before .before .loop .inv) (c .before .before .loop-test .taken) refl
 
 returns : tie.Need-returns Inv-loop μ-loop
 unfolding mixed
-returns c = tabling-done (c .before .loop .inv) (c .loop-test .left)
+returns c = writing-all (c .before .loop .inv) (c .loop-test .left)
 
 pub mix-spec : {M : Type 1} → statement M
 mix-spec =

@@ -1,31 +1,32 @@
--- `kde::write_log_errors` meets its contract: the column is written from the front (`Tabling`), each place by the definition of one.
+-- `kde::write_log_errors` meets its contract: the column is written from the front (`Writing`), each place by the definition of one.
 -- Assumes nothing.
-use mathlib.Core.Path.{_∙_, ap}
+use mathlib.Core.Path.{_∙_, ap, refl}
 use Prim.Native.Nat.{ℕ, _-_}
 use lib.ListN.{length, getD}
 use lib.Ieee.{nan}
 use Rattle.folds.specs.Columns.{tabulated}
-use Rattle.kde.proofs.Columns.{Tabling, tabling-start, tabling-step, tabling-done, tabulated-map}
+use Rattle.folds.proofs.Columns.{Writing, writing-start, writing-next, writing-all}
+use Rattle.kde.proofs.Columns.{tabulated-map}
 use Rattle.kde.specs.LogErrors.{logError}
 use borrow.Author.Needs.{needs}
 use Rattle.kde.proofs.write_log_errors.Statement.{statement}
 use Rattle.kde.proofs.write_log_errors.Tie as tie
 
 abbrev Inv-loop : tie.InvT-loop
-Inv-loop log10s errors₀ i₀ errors i = Tabling (λ (k : ℕ). logError (getD log10s k nan)) (length errors₀) errors i
+Inv-loop log10s errors₀ i₀ errors i = Writing (λ (k : ℕ). logError (getD log10s k nan)) nan (length errors₀) errors i
 
 abbrev μ-loop : tie.MeasureT-loop
 μ-loop log10s errors₀ i₀ errors i = length errors₀ - i
 
 loop-holds : tie.Need-loop-holds Inv-loop μ-loop
-loop-holds c = tabling-start _ _
+loop-holds c = writing-start refl
 
 loop-again : tie.Need-loop-again Inv-loop μ-loop
-loop-again c = tabling-step _ (c .before .before .before .loop .inv) (c .before .before .loop-test .taken) (c .log-error .ensures)
+loop-again c = writing-next _ (c .before .before .before .loop .inv) (c .before .before .loop-test .taken) (c .log-error .ensures)
 
 returns : tie.Need-returns Inv-loop μ-loop
 returns c =
-    tabling-done (c .before .loop .inv) (c .loop-test .left)
+    writing-all (c .before .loop .inv) (c .loop-test .left)
     ∙ ap (tabulated (λ (k : ℕ). logError (getD (c .before .before .before .before .args .log10s .now) k nan)) 0) (search needs)
     ∙ tabulated-map (logError) nan (c .before .before .before .before .args .log10s .now)
 
