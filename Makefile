@@ -9,6 +9,9 @@ COMPARE := cd compare && cargo run --quiet --release --offline --
 # the crates under `vayemuku`
 CRATES := $(shell sed -n 's/^vayemuku: *\([^\#]*\).*/\1/p' crates.txt)
 
+# rt starts so many proofs, waits for all of them, and starts the next: with twice the cores fewer wait idle
+export RT_JOBS ?= $(shell echo $$((2 * $$(nproc))))
+
 .PHONY: help test lib host run mutants compare record bench prepare
 help: ## this list
 	@grep -E '^[a-z]+:.*## ' $(MAKEFILE_LIST) | sed -E 's/^([a-z]+):.*## /\1\t/' | expand -t 12
@@ -22,7 +25,7 @@ test: ## host's tests; then prove every crate from nothing, try every must-fail 
 
 lib: ## target/staticlib/libvayemuku.a, to link with include/vayemuku.h
 	@command -v rt >/dev/null || { echo "make: the Rattle toolchain's command rt is not on the PATH" >&2; exit 1; }
-	rt check $(CRATES)  # two at a time
+	rt check $(CRATES)
 	rt staticlib vayemuku
 	@echo "target/staticlib/libvayemuku.a, declared by include/vayemuku.h"
 
