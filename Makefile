@@ -9,9 +9,6 @@ COMPARE := cd compare && cargo run --quiet --release --offline --
 # the crates under `vayemuku`
 CRATES := $(shell sed -n 's/^vayemuku: *\([^\#]*\).*/\1/p' crates.txt)
 
-# rt starts so many proofs, waits for all of them, and starts the next: with twice the cores fewer wait idle
-export RT_JOBS ?= $(shell echo $$((2 * $$(nproc))))
-
 .PHONY: help test lib host run mutants compare record bench prepare
 help: ## this list
 	@grep -E '^[a-z]+:.*## ' $(MAKEFILE_LIST) | sed -E 's/^([a-z]+):.*## /\1\t/' | expand -t 12
