@@ -38,7 +38,7 @@ run: lib ## two sample batches, made and rescored: one goes well, and one is ref
 	cd host && cargo build --quiet --release
 	@host/run-sample
 
-mutants: ## wrong programs: the edits of crates/*/wrong and one-token edits of the code, which the prover must refuse; some 40 minutes
+mutants: ## wrong programs: the edits of crates/*/wrong and one-token edits of the code, which the prover must refuse; an hour or more
 	@command -v python3 >/dev/null || { echo "make: python3 is not on the PATH" >&2; exit 1; }
 	mutants/run
 
