@@ -15,9 +15,9 @@ use Rattle.line_check.specs.declared.Counts.{Counts}
 use Rattle.line_check.specs.declared.Line.the-variants.{Right}
 use Rattle.gauss.specs.Elimination.{Row, Table, entry, small, nought}
 use Rattle.gauss.specs.Solutions.{solution, answered, blank}
-use Rattle.kde.specs.declared.Estimator.{Estimator}
 use Rattle.kde.specs.declared.Tolerance.the-variants.{Ppm}
 use Rattle.kde.specs.declared.BinCount.the-variants.{Bins}
+use Rattle.kde.specs.Bins.{estimator}
 use Rattle.kde.specs.Estimate.{posteriorError}
 use Rattle.kde.specs.Tolerances.{binCountAnswer}
 use Rattle.competition.specs.Tables.{tableOf, lowest, Table as CompetitionTable}
@@ -41,9 +41,6 @@ thenDecoy n = replicate n target ++ (decoy ∷ [])
 
 abbrev pub counts : ℕ → ℕ → ℕ → Counts
 counts row decoys targets = record { row = row; «decoys_plus_one» = decoys; targets = targets }
-
-abbrev pub estimator : Float → Float → Estimator
-estimator least step = record { «min_score» = least; «score_step» = step }
 
 -- 0.5 and 0.25
 abbrev pub halves : List Float

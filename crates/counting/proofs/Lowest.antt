@@ -9,14 +9,11 @@ use native.Mathlib.Nat.{not-suc-le-zero, le-of-suc-le-suc, zero-lt-suc}
 use native.Mathlib.Omega.{arith}
 use lib.Dec.{T, leb, leb·zero, leb·suc-suc, leb·suc-zero}
 use lib.ListN.{length, drop, getD}
-use lib.Ieee.{Float, nan, inf, fin, binary32, ofBits, isNan, lt, le}
+use lib.Ieee.{Float, nan, inf, fin, ofBits, isNan, lt, le}
 use Rattle.folds.proofs.Tests.{or-l, or-r, or-split}
 use Rattle.floats.specs.Least.{lesser}
 use Rattle.floats.proofs.Order.{le-left, le-refl, le-lesser, lt→not-le, lesser-either, lesser-le-left}
-use Rattle.counting.specs.QValues.{lowest, lows, atMost}
-
-abbrev one : Float
-one = ofBits binary32 0x3F800000
+use Rattle.counting.specs.QValues.{one, lowest, lows, atMost}
 
 -- ---- the least
 

@@ -22,9 +22,13 @@ ratioAt labels row = ratio (decoys (take row labels) + 1) (targets (take row lab
 unfoldable pub ratios : List ℤ → List Float
 ratios labels = tabulated (ratioAt labels) 1 (length labels)
 
+-- 1.0, at which the minimum starts
+abbrev pub one : Float
+one = ofBits binary32 0x3F800000
+
 -- the least of 1.0 and the numbers given
 unfoldable pub lowest : List Float → Float
-lowest [] = ofBits binary32 0x3F800000
+lowest [] = one
 lowest (r ∷ rs) = lesser (lowest rs) r
 
 -- at each place the least of 1.0 and the numbers from there on

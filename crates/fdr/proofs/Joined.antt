@@ -15,14 +15,14 @@ use Rattle.folds.proofs.Columns.{tabulated-same, same-blank}
 use Rattle.folds.specs.Columns.{filled, tabulated}
 use Rattle.floats.specs.Ratio.{oneIn}
 use Rattle.counting.specs.Labels.{isDecoy}
-use Rattle.counting.specs.QValues.{lows, targetsAtMost}
+use Rattle.counting.specs.QValues.{one, lows, targetsAtMost}
 use Rattle.counting.proofs.Lowest.{length-lows}
 use Rattle.ranking.specs.Keys.{sorted}
 use Rattle.kde.specs.declared.Estimator.{Estimator}
 use Rattle.competition.specs.Tables.{Table, noPart}
 use Rattle.fdr.specs.declared.Names.{Names}
 use Rattle.fdr.specs.Rows.{Side, seenSides, rankedSides}
-use Rattle.fdr.specs.QValues.{one, ratiosFrom, sideQ, sideLabel, passing, nameOf, qOf, rowQ, rowsQ}
+use Rattle.fdr.specs.QValues.{ratiosFrom, sideQ, sideLabel, passing, nameOf, qOf, rowQ, rowsQ}
 use Rattle.fdr.specs.Passes.{sideKey, sideAlong, sideOf, tagged, numberOf, labelAlong, labelOf, cappedFrom, named, rowOf, All, Within, Bits, Tagged, Ratable, Ready}
 use Rattle.fdr.proofs.Keys.{AllHeld, all-at, ratios-fit, capped-held, lows-held, length-ratios, tags-bits, numbers-tagged, along-tagged, all-tagged, tagged-again, lows-capped}
 use Rattle.fdr.proofs.Naming.{name-within, named-reads, named-bits, ones-bits, length-named, allowed-within}

@@ -13,12 +13,12 @@ use lib.Ieee.Fits.{div-fits}
 use lib.Ieee.Bits.{cond-no, ofBits-toBits, toBits-lt, ofBits-fits}
 use Rattle.floats.specs.Least.{lesser}
 use Rattle.floats.proofs.Order.{le-left, lt→not-le, lt-of-lt-of-le, lesser-either, lesser-le-left}
-use Rattle.counting.specs.QValues.{lowest, lows}
+use Rattle.counting.specs.QValues.{one, lowest, lows}
 use Rattle.counting.proofs.Lowest.{lesser-number, lowest-number, lowest-most}
 use Rattle.ranking.proofs.Ranks.{Fitting}
 use Rattle.kde.specs.declared.Estimator.{Estimator}
 use Rattle.fdr.specs.Rows.{Side}
-use Rattle.fdr.specs.QValues.{one, ratiosFrom}
+use Rattle.fdr.specs.QValues.{ratiosFrom}
 use Rattle.fdr.specs.Passes.{tagged, numberOf, All, Bits, Tagged}
 
 -- ---- one key

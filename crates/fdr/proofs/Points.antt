@@ -14,14 +14,16 @@ use Rattle.floats.specs.Least.{lesser}
 use Rattle.floats.specs.TotalOrder.{before}
 use Rattle.ranking.specs.Ranking.{inserted, rankedFrom}
 use Rattle.columns.specs.declared.Counted.the-variants.{Passing}
-use Rattle.counting.specs.QValues.{lowest}
+use Rattle.counting.specs.QValues.{one, lowest}
 use Rattle.counting.proofs.Lowest.{lows-rise}
 use Rattle.kde.specs.declared.Estimator.{Estimator}
+use Rattle.kde.specs.Bins.{estimator}
+use Rattle.kde.proofs.Points.{halves}
 use Rattle.competition.specs.Tables.{Table, tableOf, noPart, lowest as unseen}
 use Rattle.fdr.specs.declared.Names.{Names}
 use Rattle.fdr.specs.declared.Names.the-variants.{Two, One}
 use Rattle.fdr.specs.Rows.{Side, rankedSides}
-use Rattle.fdr.specs.QValues.{one, ratiosFrom, sideQ, rowQ, rowsQ, assignAnswer, assignColumn}
+use Rattle.fdr.specs.QValues.{ratiosFrom, sideQ, rowQ, rowsQ, assignAnswer, assignColumn}
 use Rattle.fdr.proofs.Keys.{length-ratios}
 
 -- ---- the q-values of ranked rows never fall down their list
@@ -40,13 +42,10 @@ one-name-same sides qs slot label label′ = refl
 -- ---- "two target slots scored 2.0 and 1.0, bins 0.5, 0.25, least 1, step 1: q 0.875 for both, count 0"
 
 abbrev pub fromOne : Estimator
-fromOne = record { «min_score» = fin false 1 (pos 0); «score_step» = fin false 1 (pos 0) }
+fromOne = estimator (fin false 1 (pos 0)) (fin false 1 (pos 0))
 
 abbrev pub twoTargets : Table
 twoTargets = tableOf (fin false 1 (pos 1) ∷ fin false 1 (pos 0) ∷ []) (unseen ∷ unseen ∷ []) (1 ∷ 1 ∷ []) (0 ∷ 0 ∷ [])
-
-abbrev pub halves : List Float
-halves = fin false 1 (negsuc 0) ∷ fin false 1 (negsuc 1) ∷ []
 
 pub two-targets-count : assignAnswer fromOne halves twoTargets (0 ∷ 1 ∷ []) 2 4 4 2 ≡ Passing 0
 unfolding assignAnswer rankedFrom inserted before le lowest lesser ofBits div add toUnsigned sub mul ofInt

@@ -18,7 +18,8 @@ use Rattle.floats.specs.Least.{lesser}
 use Rattle.kde.specs.declared.Estimator.{Estimator}
 use Rattle.kde.specs.Estimate.{posteriorError}
 use Rattle.competition.specs.Tables.{Table}
-use Rattle.fdr.specs.QValues.{one, errorOf, ratiosFrom}
+use Rattle.counting.specs.QValues.{one}
+use Rattle.fdr.specs.QValues.{errorOf, ratiosFrom}
 use Rattle.fdr.specs.Passes.{scoreAt, sideOf, plain, tagged, cappedFrom, All, Within}
 use Rattle.fdr.proofs.Keys.{all-at}
 

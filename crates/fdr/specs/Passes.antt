@@ -15,7 +15,8 @@ use Rattle.kde.specs.declared.Estimator.{Estimator}
 use Rattle.competition.specs.Tables.{Table, noPart, allAllowed}
 use Rattle.fdr.specs.declared.Names.{Names}
 use Rattle.fdr.specs.Rows.{Side}
-use Rattle.fdr.specs.QValues.{one, ratiosFrom, nameOf}
+use Rattle.counting.specs.QValues.{one}
+use Rattle.fdr.specs.QValues.{ratiosFrom, nameOf}
 
 -- ---- a side's key: its score above, and along with it twice its slot, and one more for a decoy
 

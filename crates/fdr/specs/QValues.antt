@@ -6,7 +6,7 @@ use Prim.Native.Nat.{ℕ, suc, _+_, _*_}
 use lib.Dec.{leb, eqb}
 use lib.IntN.{ℤ, pos, negsuc}
 use lib.ListN.{length, getD}
-use lib.Ieee.{Float, nan, binary32, binary64, ofBits, ofInt, add, div}
+use lib.Ieee.{Float, nan, binary32, binary64, ofInt, add, div}
 use Rattle.folds.specs.Columns.{filled, tabulated}
 use Rattle.floats.specs.Convert.{converted}
 use Rattle.floats.specs.Ratio.{oneIn}
@@ -18,7 +18,7 @@ use Rattle.columns.specs.declared.Counted.{Counted}
 use Rattle.columns.specs.declared.Counted.the-variants.{Passing, Refused}
 use Rattle.columns.specs.declared.Refusal.the-variants.{TooLong, WrongLength, OutOfRange, NoSuchSlot}
 use Rattle.counting.specs.Labels.{isDecoy}
-use Rattle.counting.specs.QValues.{lows, targetsAtMost}
+use Rattle.counting.specs.QValues.{one, lows, targetsAtMost}
 use Rattle.kde.specs.declared.Estimator.{Estimator}
 use Rattle.kde.specs.Answers.{inRange}
 use Rattle.kde.specs.Estimate.{posteriorError}
@@ -26,10 +26,6 @@ use Rattle.competition.specs.Tables.{Table, tableShort, tableFits, noPart, allA
 use Rattle.fdr.specs.declared.Names.{Names}
 use Rattle.fdr.specs.declared.Names.the-variants.{Two, One}
 use Rattle.fdr.specs.Rows.{Side, rankedSides}
-
--- 1.0
-abbrev pub one : Float
-one = ofBits binary32 0x3F800000
 
 -- a side's posterior error (module 4), narrowed
 abbrev pub errorOf : Estimator → List Float → Side → Float

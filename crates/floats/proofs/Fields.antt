@@ -2,132 +2,57 @@
 -- magnitude has in units of the smallest value, from the 53rd on. Assumes nothing.
 use mathlib.Core.Path.{_≡_, refl, sym, ap, _∙_, subst}
 use mathlib.Core.Logic.{_⊎_, inl, inr}
-use Prim.Native.Nat.{ℕ, zero, suc, _+_, _-_, _*_, _/_, _%_, _^_, _≤_, _<_}
-use native.Mathlib.Nat.{le-trans, le-of-eq, lt-of-lt-of-le, not-le-of-lt, div-one, le-div-iff-mul-le, mul-mod-left}
+use Prim.Native.Nat.{ℕ, suc, _+_, _-_, _*_, _/_, _%_, _^_, _≤_, _<_}
+use native.Mathlib.Nat.{add-zero, add-comm, le-trans, le-of-eq, lt-of-lt-of-le, not-le-of-lt, div-one, le-div-iff-mul-le, mul-mod-left}
 use native.Mathlib.Omega.{arith}
 use mathlib.Core.Bool.{Bool, true, false, not, cond, true≢false}
 use lib.IntN.{ℤ}
-use lib.Dec.{T, leb, eqb, eqb→eq, leb→le, not-T, lit<}
+use lib.Dec.{T, leb, eqb, eqb→eq, leb→le, not-T}
 use lib.Arith.{le→nltb}
 use lib.Pow.{pow-add, pow-pos, pow-mono}
-use lib.Ieee.{Float, nan, inf, fin, Format, binary64, size, odd, neg, fits, isNan, ofFields, ofBits, nanBits, toBits}
+use lib.Ieee.{Float, nan, inf, fin, binary64, size, odd, neg, fits, isNan, ofFields, ofBits, nanBits, toBits}
 use lib.Ieee.Digits.{size-lt, size-reaches}
 use lib.Ieee.Fits.{kept-lt}
-use lib.Ieee.Bits.{is-false, cond-no, ofBits-toBits, toBits-lt, nanBits-above}
+use lib.Ieee.Bits.{is-false, cond-no, ofBits-toBits, nanBits-above}
 use lib.Ieee.Exact.{HasValue, odd-sign}
 use Rattle.folds.proofs.Tests.{lt-or-ge}
-use Rattle.floats.specs.TotalOrder.{negative}
+use Rattle.floats.specs.Signs.{negative, absolute}
+use Rattle.floats.proofs.Signs.{no-sign, absolute-fits, bits-sign, magnitude-lt}
 use Rattle.floats.proofs.Values.{unitsOf, toBits-of}
 
 -- ---- the sign
 
--- the bits without the sign
-abbrev magnitude : ℕ → ℕ
-magnitude n = (size n - 53) * 4503599627370496 + n / 2 ^ (size n - 53)
-
-fits-minus : (f : Format) (s : Bool) (m : ℕ) (e : ℤ) → T (fits f (fin s m e)) → T (fits f (fin true m e))
-unfolding fits
-fits-minus f s zero e h = h
-fits-minus f s (suc m) e h = h
-
-magnitude-lt : (s : Bool) (m : ℕ) (e : ℤ) → T (fits binary64 (fin s m e)) → magnitude (unitsOf binary64 m e) < 9223372036854775808
-magnitude-lt s m e h =
-    let b = toBits-lt binary64 (fin true m e) (fits-minus binary64 s m e h) in
-    let k = size (unitsOf binary64 m e) - 53 in
-    let q = unitsOf binary64 m e / 2 ^ k in
-    let g : 9223372036854775808 + k * 4503599627370496 + q < 18446744073709551616 = subst (λ (x : ℕ). x < 18446744073709551616) (toBits-of binary64 true m e) b in
-    small k q g
-  where
-    small : (k q : ℕ) → 9223372036854775808 + k * 4503599627370496 + q < 18446744073709551616 → k * 4503599627370496 + q < 9223372036854775808
-    small k q g = omega arith
-
--- the magnitude, as a float
-abbrev pub absolute : Float → Float
-absolute nan = nan
-absolute (inf s) = inf false
-absolute (fin s m e) = fin false m e
-
-pub absolute-number : (x : Float) → T (not (isNan x)) → T (not (isNan (absolute x)))
-unfolding isNan
-absolute-number nan h = h
-absolute-number (inf s) h = tt
-absolute-number (fin s m e) h = tt
-
-pub absolute-plus : (x : Float) → negative (absolute x) ≡ false
-absolute-plus nan = refl
-absolute-plus (inf s) = refl
-absolute-plus (fin s m e) = refl
-
-absolute-fits : (x : Float) → T (fits binary64 x) → T (fits binary64 (absolute x))
-unfolding fits
-absolute-fits nan h = tt
-absolute-fits (inf s) h = tt
-absolute-fits (fin s zero e) h = h
-absolute-fits (fin s (suc m) e) h = h
-
-low-bits : (s : Bool) (k q : ℕ) → k * 4503599627370496 + q < 9223372036854775808
-    → (cond s 9223372036854775808 0 + k * 4503599627370496 + q) % 9223372036854775808 ≡ 0 + k * 4503599627370496 + q
-low-bits true k q h = omega arith
-low-bits false k q h = omega arith
-
 -- the bits below the sign are those of the magnitude
-unsigned : (x : Float) → T (fits binary64 x) → T (not (isNan x)) → toBits binary64 x % 9223372036854775808 ≡ toBits binary64 (absolute x)
-unfolding toBits isNan
-unsigned nan h k = absurd k
-unsigned (inf true) h k = refl
-unsigned (inf false) h k = refl
-unsigned (fin s m e) h k =
-    let n = unitsOf binary64 m e in
-    low-bits s (size n - 53) (n / 2 ^ (size n - 53)) (magnitude-lt s m e h)
+unsigned : (x : Float) → T (fits binary64 x) → toBits binary64 x % 9223372036854775808 ≡ toBits binary64 (absolute x)
+unsigned x h = go (negative x) (toBits binary64 (absolute x)) (toBits binary64 x) (bits-sign binary64 x) (magnitude-lt binary64 x h)
+  where
+    go : (s : Bool) (a b : ℕ) → b ≡ cond s 9223372036854775808 0 + a → a < 9223372036854775808 → b % 9223372036854775808 ≡ a
+    go true a b e l = omega arith
+    go false a b e l = omega arith
 
-pub sign-off : (x : Float) → T (fits binary64 x) → T (not (isNan x)) → ofBits binary64 (toBits binary64 x % 9223372036854775808) ≡ absolute x
-sign-off x h k = ap (ofBits binary64) (unsigned x h k) ∙ ofBits-toBits binary64 (absolute x) (absolute-fits x h)
-
-high-bit : (s : Bool) (k q : ℕ) → k * 4503599627370496 + q < 9223372036854775808
-    → (let b = cond s 9223372036854775808 0 + k * 4503599627370496 + q in b - b % 9223372036854775808) ≡ cond s 9223372036854775808 0
-high-bit true k q h = omega arith
-high-bit false k q h = omega arith
+pub sign-off : (x : Float) → T (fits binary64 x) → ofBits binary64 (toBits binary64 x % 9223372036854775808) ≡ absolute x
+sign-off x h = ap (ofBits binary64) (unsigned x h) ∙ ofBits-toBits binary64 (absolute x) (absolute-fits binary64 x h)
 
 -- and the rest is the sign
-pub sign-part : (x : Float) → T (fits binary64 x) → T (not (isNan x)) → toBits binary64 x - toBits binary64 x % 9223372036854775808 ≡ cond (negative x) 9223372036854775808 0
-unfolding toBits isNan
-sign-part nan h k = absurd k
-sign-part (inf true) h k = refl
-sign-part (inf false) h k = refl
-sign-part (fin s m e) h k =
-    let n = unitsOf binary64 m e in
-    high-bit s (size n - 53) (n / 2 ^ (size n - 53)) (magnitude-lt s m e h)
-
-plus-zero : (n : ℕ) → n + 0 ≡ n
-plus-zero n = omega arith
-
-plus-top : (k q : ℕ) → 0 + k + q + 9223372036854775808 ≡ 9223372036854775808 + k + q
-plus-top k q = omega arith
+pub sign-part : (x : Float) → T (fits binary64 x) → toBits binary64 x - toBits binary64 x % 9223372036854775808 ≡ cond (negative x) 9223372036854775808 0
+sign-part x h = go (negative x) (toBits binary64 (absolute x)) (toBits binary64 x) (bits-sign binary64 x) (magnitude-lt binary64 x h)
+  where
+    go : (s : Bool) (a b : ℕ) → b ≡ cond s 9223372036854775808 0 + a → a < 9223372036854775808 → b - b % 9223372036854775808 ≡ cond s 9223372036854775808 0
+    go true a b e l = omega arith
+    go false a b e l = omega arith
 
 -- the sign's bit added to a magnitude's bits
 pub sign-on : (s : Bool) (y : Float) → T (not (isNan y)) → negative y ≡ false → toBits binary64 y + cond s 9223372036854775808 0 ≡ toBits binary64 (cond s (neg y) y)
-unfolding toBits neg isNan
-sign-on false y k e = plus-zero (toBits binary64 y)
+unfolding neg isNan
+sign-on false y k e = add-zero (toBits binary64 y)
 sign-on true nan k e = absurd k
 sign-on true (inf true) k e = absurd (true≢false e)
-sign-on true (inf false) k e = refl
+sign-on true (inf false) k e = add-comm _ _ ∙ sym (bits-sign binary64 (inf true))
 sign-on true (fin true m d) k e = absurd (true≢false e)
-sign-on true (fin false m d) k e =
-    let n = unitsOf binary64 m d in
-    plus-top ((size n - 53) * 4503599627370496) (n / 2 ^ (size n - 53))
+sign-on true (fin false m d) k e = add-comm _ _ ∙ sym (bits-sign binary64 (fin true m d))
 
-pub magnitude-bits : (y : Float) → T (fits binary64 y) → T (not (isNan y)) → negative y ≡ false → toBits binary64 y < 9223372036854775808
-unfolding toBits isNan
-magnitude-bits nan h k e = absurd k
-magnitude-bits (inf true) h k e = absurd (true≢false e)
-magnitude-bits (inf false) h k e = lit< tt
-magnitude-bits (fin true m d) h k e = absurd (true≢false e)
-magnitude-bits (fin false m d) h k e =
-    let n = unitsOf binary64 m d in
-    bare ((size n - 53) * 4503599627370496) (n / 2 ^ (size n - 53)) (magnitude-lt false m d h)
-  where
-    bare : (k q : ℕ) → k + q < 9223372036854775808 → 0 + k + q < 9223372036854775808
-    bare k q g = omega arith
+pub magnitude-bits : (y : Float) → T (fits binary64 y) → negative y ≡ false → toBits binary64 y < 9223372036854775808
+magnitude-bits y h e = subst (λ (z : Float). toBits binary64 z < 9223372036854775808) (no-sign y e) (magnitude-lt binary64 y h)
 
 -- ---- the exponent
 

@@ -1,3 +1,4 @@
+pub mod Signs
 pub mod Values
 pub mod Fractions
 pub mod Fields

@@ -18,11 +18,11 @@ use lib.Ieee.Scale.{round-same}
 use Rattle.folds.proofs.Tests.{lt-or-ge}
 use Rattle.floats.specs.Convert.{converted}
 use Rattle.floats.specs.Least.{greater}
-use Rattle.floats.specs.TotalOrder.{negative}
+use Rattle.floats.specs.Signs.{negative, absolute}
 use Rattle.floats.proofs.Values.{unitsOf, fitting, units-value}
 use Rattle.floats.proofs.Fractions.{lt-at, neg-round}
 use Rattle.floats.proofs.Narrowing.{end, rounded, in-range, out-of-range, place-of}
-use Rattle.floats.proofs.Fields.{absolute, exponent, power}
+use Rattle.floats.proofs.Fields.{exponent, power}
 
 -- ---- the end of f32, 2 ^ 128 - 2 ^ 103
 
@@ -214,22 +214,3 @@ converted-not-nan f (fin s m e) h =
     let k = size (n / down e) - prec f in
     let u = down e * 2 ^ k in
     subst (λ (y : Float). T (not (isNan y))) (sym (round-is f s (m * up e) (down e))) (units-not-nan f s (nearest (n / u) (compare (n % u * 2) u)) k)
-
-units-plus : (f : Format) (q k : ℕ) → negative (units f false q k) ≡ false
-unfolding units odd
-units-plus f q k = go (ltb (q * 2 ^ k) (2 ^ (low f + suc (emax f)))) q
-  where
-    go : (b : Bool) (n : ℕ) → negative (cond b (odd (suc (prec f)) false n k (low f)) (inf false)) ≡ false
-    go true zero = refl
-    go true (suc n) = refl
-    go false n = refl
-
-pub converted-plus : (f : Format) (x : Float) → negative (converted f (absolute x)) ≡ false
-unfolding converted
-converted-plus f nan = refl
-converted-plus f (inf s) = refl
-converted-plus f (fin s m e) =
-    let n = m * up e * 2 ^ low f in
-    let k = size (n / down e) - prec f in
-    let u = down e * 2 ^ k in
-    ap negative (round-is f false (m * up e) (down e)) ∙ units-plus f (nearest (n / u) (compare (n % u * 2) u)) k

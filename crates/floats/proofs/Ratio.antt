@@ -1,14 +1,14 @@
 -- Ratios of two counts, as f32. Counts up to 2^24 are f32 exactly, so their ratio is one rounding of the true ratio, and rounding
 -- keeps the order: whether a ratio d/t is at most the f32 nearest to 1/k is then the question of whole numbers whether k·d ≤ t.
 use mathlib.Core.Path.{_≡_, refl, _∙_}
-use mathlib.Core.Bool.{Bool, true, false, _||_}
+use mathlib.Core.Bool.{Bool, true, false}
 use Prim.Native.Nat.{ℕ, zero, suc, _+_, _-_, _*_, _^_, _≤_, _<_}
 use native.Mathlib.Nat.{mul-one, mul-comm, mul-assoc, mul-left-comm, mul-pos, zero-lt-suc}
 use native.Mathlib.Omega.{arith}
 use borrow.Author.Tests.{leb-true, leb-false, lt-leb, ne-eqb}
 use lib.IntN.{pos}
 use lib.Dec.{T, leb, lit≤, ltb→lt, not-T}
-use lib.Ieee.{Float, nan, inf, fin, binary32, up, down, round, ofInt, ofBits, add, div, lt, le, eq}
+use lib.Ieee.{Float, nan, inf, fin, binary32, up, down, round, ofInt, ofBits, add, div, lt, le}
 use lib.Ieee.Bits.{is-true, is-false}
 use lib.Ieee.Exact.{HasValue}
 use lib.Ieee.Back.{round-whole}
@@ -16,6 +16,7 @@ use lib.Ieee.Order.{round-mono}
 use lib.Ieee.Positive.{positive, above, positive-of-value, above-of-le, between, le→cross, le-trans-positive}
 use Rattle.floats.specs.Ratio.{oneIn}
 use Rattle.floats.proofs.Fractions.{div-at, add-at}
+use Rattle.floats.proofs.Order.{lt→le}
 
 pub one-in-100 : oneIn 100 ≡ ofBits binary32 0x3C23D70A
 unfolding oneIn round ofBits
@@ -82,13 +83,6 @@ above-lt : (x y : Float) → T (above x) → T (lt x y) → T (positive x)
 above-lt (inf false) y p h = absurd (rw (inf-lt y) at h)
 above-lt (fin false m e) y p h = p
 
-lt-le : (x y : Float) → T (lt x y) → T (le x y)
-unfolding le
-lt-le x y h = go (lt x y) h
-  where
-    go : (b : Bool) → T b → T (b || eq x y)
-    go true h = tt
-
 lt-clash : (x y : Float) → T (positive x) → T (positive y) → T (lt x y) → T (le y x) → ⊥
 unfolding lt
 lt-clash (fin false m e) (fin false n d) p q h k =
@@ -98,7 +92,7 @@ lt-clash (fin false m e) (fin false n d) p q h k =
 beyond : (x y z : Float) → T (positive z) → T (lt x y) → T (le y z) → T (le z x) → ⊥
 beyond x y z r h k l =
     let p : T (positive x) = above-lt x y (above-of-le z x r l) h in
-    let q : T (positive y) = between x y z p r (lt-le x y h) k in
+    let q : T (positive y) = between x y z p r (lt→le x y h) k in
     lt-clash x y p q h (le-trans-positive y z x q r p k l)
 
 -- The next ratio above 1/k that two counts below 2^24 can have is 2^24 / (k·(2^24 − 1)) or more: the format tells it from 1/k.

@@ -4,7 +4,7 @@ use mathlib.Core.Path.{_≡_, refl, sym, ap, ap₂, _∙_}
 use mathlib.Core.Logic.{_⊎_, inl, inr}
 use mathlib.Core.Bool.{Bool, true, false, not, _&&_, _||_, cond, and-true, and-false, or-false}
 use Prim.Native.Nat.{ℕ, zero, suc, _+_, _-_, _*_, _/_, _%_, _^_, _≤_, _<_, zero-le}
-use native.Mathlib.Nat.{one-mul, mod-lt, zero-add, add-assoc, zero-mul, add-mul, suc-mul, mul-pos, mul-right-comm, mul-le-mul-right}
+use native.Mathlib.Nat.{one-mul, mod-lt, add-assoc, zero-mul, add-mul, suc-mul, mul-pos, mul-right-comm, mul-le-mul-right}
 use native.Mathlib.Nat.{mul-lt-mul-of-pos-right, eq-or-lt-of-le, eq-zero-or-pos, le-div-iff-mul-le, div-lt-iff-lt-mul}
 use native.Mathlib.Omega.{arith}
 use borrow.Author.Tests.{lt-ltb, le-ltb}
@@ -19,13 +19,15 @@ use lib.Ieee.Bits.{ofBits-toBits, toBits-lt}
 use lib.Ieee.Compare.{differs-from-itself}
 use lib.Ieee.Nearest.{div-mono}
 use lib.Ieee.Positive.{num, den}
-use Rattle.floats.specs.TotalOrder.{negative, before, compared, orderKey}
+use Rattle.floats.specs.Signs.{negative, absolute}
+use Rattle.floats.specs.TotalOrder.{before, compared, orderKey}
 use Rattle.floats.specs.declared.Ordering.{Ordering}
 use Rattle.floats.specs.declared.Ordering.the-variants.{Less, Equal, Greater}
 use denote.Floats.{passes}
 use Rattle.folds.proofs.Tests.{same-test, yes-or-no, or-split, or-l}
-use Rattle.floats.proofs.Order.{both-zero}
-use Rattle.floats.proofs.Order.{lt→le, eq→le, lt→not-le, lt-trans, lt-of-le-of-lt, lt-of-lt-of-le}
+use Rattle.floats.proofs.Signs.{absolute-fits, bits-sign, magnitude-lt}
+use Rattle.floats.proofs.Values.{unitsOf}
+use Rattle.floats.proofs.Order.{both-zero, lt→le, eq→le, lt→not-le, lt-trans, lt-of-le-of-lt, lt-of-lt-of-le}
 
 -- ---- a strict order of all floats
 
@@ -135,31 +137,9 @@ rank-mono f a b h =
 
 -- ---- the bits of a float, as its sign and the bits of its magnitude
 
--- without its sign
-abbrev plain : Float → Float
-plain nan = nan
-plain (inf s) = inf false
-plain (fin s m e) = fin false m e
-
--- m * 2 ^ e in units of the smallest value
-abbrev unitsOf : Format → ℕ → ℤ → ℕ
-unitsOf f m e = m * up e * 2 ^ low f / down e
-
 bits-fin : (f : Format) (s : Bool) (m : ℕ) (e : ℤ) → toBits f (fin s m e) ≡ cond s (top f) 0 + rank f (unitsOf f m e)
 unfolding toBits
 bits-fin f s m e = add-assoc _ _ _
-
-bits-sign : (f : Format) (x : Float) → toBits f x ≡ cond (negative x) (top f) 0 + toBits f (plain x)
-bits-sign f nan = sym (zero-add _)
-bits-sign f (inf s) = unfold toBits in rw zero-add
-bits-sign f (fin s m e) = rw (bits-fin, bits-fin, zero-add)
-
-plain-fits : (f : Format) (x : Float) → T (fits f x) → T (fits f (plain x))
-unfolding fits
-plain-fits f nan p = tt
-plain-fits f (inf s) p = tt
-plain-fits f (fin s zero e) p = p
-plain-fits f (fin s (suc m) e) p = p
 
 -- equal bits are of equal floats
 bits-tell : (f : Format) (x y : Float) → T (fits f x) → T (fits f y) → toBits f x ≡ toBits f y → x ≡ y
@@ -204,7 +184,7 @@ unfolding fits
 fits-below f s zero e p = rw zero-mul (mul-pos (pow-pos (suc (emax f))) (down-pos e))
 fits-below f s (suc m) e p = ltb→lt (suc m * up e) (2 ^ suc (emax f) * down e) (search and-r)
 
--- the bits of a finite value are below an infinity's, those below the NaN's, and those below the sign's
+-- the bits of a finite value are below an infinity's, and those below the NaN's
 fin-below : (f : Format) (m : ℕ) (e : ℤ) → T (fits f (fin false m e)) → toBits f (fin false m e) < toBits f (inf false)
 unfolding toBits
 fin-below f m e p =
@@ -220,14 +200,9 @@ unfolding toBits
 inf-below binary32 = lit< tt
 inf-below binary64 = lit< tt
 
-nan-lt : (f : Format) → toBits f nan < top f
-unfolding toBits
-nan-lt binary32 = lit< tt
-nan-lt binary64 = lit< tt
-
 -- magnitudes' bits stand as the magnitudes do
-mag-orders : (f : Format) (x y : Float) → T (fits f (plain x)) → T (fits f (plain y))
-    → ltb (toBits f (plain x)) (toBits f (plain y)) ≡ before (plain x) (plain y)
+mag-orders : (f : Format) (x y : Float) → T (fits f (absolute x)) → T (fits f (absolute y))
+    → ltb (toBits f (absolute x)) (toBits f (absolute y)) ≡ before (absolute x) (absolute y)
 unfolding before
 mag-orders f nan nan p q = le-ltb (toBits f nan) (toBits f nan) (omega arith)
 mag-orders f nan (inf t) p q = le-ltb (toBits f nan) (toBits f (inf false)) (omega (arith, inf-below f))
@@ -238,11 +213,6 @@ mag-orders f (inf s) (fin t n d) p q = le-ltb (toBits f (inf false)) (toBits f (
 mag-orders f (fin s m e) nan p q = lt-ltb (toBits f (fin false m e)) (toBits f nan) (omega (arith, inf-below f, fin-below f m e p))
 mag-orders f (fin s m e) (inf t) p q = lt-ltb (toBits f (fin false m e)) (toBits f (inf false)) (fin-below f m e p)
 mag-orders f (fin s m e) (fin t n d) p q = fin-orders f m e n d p q
-
-mag-lt : (f : Format) (x : Float) → T (fits f (plain x)) → toBits f (plain x) < top f
-mag-lt f nan p = nan-lt f
-mag-lt f (inf s) p = omega (arith, inf-below f, nan-lt f)
-mag-lt f (fin s m e) p = omega (arith, fin-below f m e p, inf-below f, nan-lt f)
 
 -- ---- first by sign, then by magnitude
 
@@ -262,7 +232,7 @@ minus-first : (a b : ℕ) → (ltb 0 (a + b) || (eqb a b && eqb a 0) && true) �
 minus-first a b = elim (eq-zero-or-pos (a + b)) [ inl z ↦ rw (and-true, both-zero, z) | inr h ↦ rw (lt-ltb 0 (a + b) h) ]
 
 by-sign : (x y : Float)
-    → before x y ≡ cond (negative x) (cond (negative y) (before (plain y) (plain x)) true) (cond (negative y) false (before (plain x) (plain y)))
+    → before x y ≡ cond (negative x) (cond (negative y) (before (absolute y) (absolute x)) true) (cond (negative y) false (before (absolute x) (absolute y)))
 unfolding before
 by-sign nan nan = refl
 by-sign nan (inf t) = always t false
@@ -290,9 +260,9 @@ key-form : (t : ℕ) (s : Bool) (a b : ℕ) → b ≡ cond s t 0 + a → cond s 
 key-form t true a b e = omega arith
 key-form t false a b e = omega arith
 
-key-is : (f : Format) (x : Float) → orderKey f x ≡ keyOf (top f) (negative x) (toBits f (plain x))
+key-is : (f : Format) (x : Float) → orderKey f x ≡ keyOf (top f) (negative x) (toBits f (absolute x))
 unfolding orderKey
-key-is f x = key-form (top f) (negative x) (toBits f (plain x)) (toBits f x) (bits-sign f x)
+key-is f x = key-form (top f) (negative x) (toBits f (absolute x)) (toBits f x) (bits-sign f x)
 
 -- such keys stand first by sign, then by magnitude
 placed : (t : ℕ) (s u : Bool) (a b : ℕ) → a < t → b < t → ltb (keyOf t s a) (keyOf t u b) ≡ cond s (cond u (ltb b a) true) (cond u false (ltb a b))
@@ -303,14 +273,14 @@ placed t false false a b p q = same-ltb (t + a) (t + b) a b (λ h. omega arith) 
 
 pub key-orders : (f : Format) (x y : Float) → T (fits f x) → T (fits f y) → ltb (orderKey f x) (orderKey f y) ≡ before x y
 key-orders f x y p q =
-    let p′ = plain-fits f x p in
-    let q′ = plain-fits f y q in
+    let p′ = absolute-fits f x p in
+    let q′ = absolute-fits f y q in
     ap₂ ltb (key-is f x) (key-is f y)
-    ∙ placed (top f) (negative x) (negative y) (toBits f (plain x)) (toBits f (plain y)) (mag-lt f x p′) (mag-lt f y q′)
+    ∙ placed (top f) (negative x) (negative y) (toBits f (absolute x)) (toBits f (absolute y)) (magnitude-lt f x p) (magnitude-lt f y q)
     ∙ rw (mag-orders f x y p′ q′, mag-orders f y x q′ p′) (sym (by-sign x y))
 
 pub key-lt : (f : Format) (x : Float) → T (fits f x) → orderKey f x < 2 * top f
-key-lt f x p = rw key-is (go (top f) (negative x) (toBits f (plain x)) (mag-lt f x (plain-fits f x p)))
+key-lt f x p = rw key-is (go (top f) (negative x) (toBits f (absolute x)) (magnitude-lt f x p))
   where
     go : (t : ℕ) (s : Bool) (a : ℕ) → a < t → keyOf t s a < 2 * t
     go t true a h = omega arith
@@ -327,7 +297,7 @@ pub key-injective : (f : Format) (x y : Float) → T (fits f x) → T (fits f y)
 key-injective f x y p q e =
     bits-tell f x y p q
     (bits-sign f x
-    ∙ unkeyed (top f) (negative x) (negative y) (toBits f (plain x)) (toBits f (plain y)) (mag-lt f x (plain-fits f x p)) (mag-lt f y (plain-fits f y q))
+    ∙ unkeyed (top f) (negative x) (negative y) (toBits f (absolute x)) (toBits f (absolute y)) (magnitude-lt f x p) (magnitude-lt f y q)
     (sym (key-is f x) ∙ e ∙ key-is f y)
     ∙ sym (bits-sign f y))
 
@@ -356,7 +326,7 @@ abbrev pub signed : ℕ → ℕ → ℕ
 signed t b = b % t + t - b / t * (b % t + b % t + 1)
 
 pub key-split : (f : Format) (x : Float) → T (fits f x) → orderKey f x ≡ signed (top f) (toBits f x)
-key-split f x p = key-is f x ∙ go (top f) (negative x) (toBits f (plain x)) (toBits f x) (bits-sign f x) (mag-lt f x (plain-fits f x p))
+key-split f x p = key-is f x ∙ go (top f) (negative x) (toBits f (absolute x)) (toBits f x) (bits-sign f x) (magnitude-lt f x p)
   where
     go : (t : ℕ) (s : Bool) (a b : ℕ) → b ≡ cond s t 0 + a → a < t → keyOf t s a ≡ signed t b
     go t true a b e l =

@@ -1,3 +1,4 @@
+pub mod Signs
 pub mod Convert
 pub mod Whole
 pub mod Least

@@ -2,14 +2,9 @@
 use Prim.Native.Nat.{ℕ, _+_, _-_, _*_}
 use mathlib.Core.Bool.{Bool, true, false, not, _&&_, _||_, cond}
 use lib.Ieee.{Float, nan, inf, fin, Format, lt, eq, top, toBits}
+use Rattle.floats.specs.Signs.{negative}
 use Rattle.floats.specs.declared.Ordering.{Ordering}
 use Rattle.floats.specs.declared.Ordering.the-variants.{Less, Equal, Greater}
-
--- whether the sign is minus; the NaN counts as plus
-abbrev pub negative : Float → Bool
-negative nan = false
-negative (inf s) = s
-negative (fin s m e) = s
 
 -- By value, and −0 before +0: −infinity, …, −0, +0, …, +infinity, NaN.
 unfoldable pub before : Float → Float → Bool

@@ -4,10 +4,11 @@ ghost use mathlib.Core.Path.{_≡_};
 ghost use mathlib.Core.Bool.{false, not};
 ghost use lib.Dec.{T};
 ghost use lib.Ieee.{binary32, binary64, toUnsigned, isNan};
+ghost use Rattle.floats.specs.Signs.{negative};
 ghost use Rattle.floats.specs.Convert.{converted};
 ghost use Rattle.floats.specs.Whole.{floored, ceiled};
 ghost use Rattle.floats.specs.Least.{lesser, greater};
-ghost use Rattle.floats.specs.TotalOrder.{negative, compared, orderKey};
+ghost use Rattle.floats.specs.TotalOrder.{compared, orderKey};
 
 // The f32 nearest to a magnitude, ties to even, as an f64.
 //

@@ -16,13 +16,13 @@ use Rattle.folds.proofs.Tests.{or-r, or-split}
 use lib.Ieee.Scale.{finite}
 use lib.Ieee.Exact.{HasValue}
 use lib.Ieee.Back.{round-whole}
-use Rattle.floats.specs.TotalOrder.{negative}
+use Rattle.floats.specs.Signs.{negative}
+use Rattle.floats.proofs.Signs.{round-sign}
 use Rattle.floats.proofs.Whole.{floor-then-convert}
 use Rattle.kde.specs.declared.Estimator.{Estimator}
 use Rattle.kde.specs.Bins.{binScore}
 use Rattle.kde.specs.Estimate.{stepsUp, factor, interpolated, posteriorError}
 use Rattle.kde.proofs.Steps.{posterior-by}
-use Rattle.kde.proofs.Signs.{round-sign}
 use Rattle.kde.proofs.Differences.{nought, sub-below, sub-above, sub-level}
 use Rattle.kde.proofs.Zeros.{minusNought, nought-add, add-nought, add-minus-nought, nought-mul, mul-nought, sub-self}
 

@@ -11,7 +11,7 @@ use Rattle.columns.specs.declared.Refusal.the-variants.{OutOfRange, NoTolerance
 use Rattle.kde.specs.declared.Estimator.{Estimator}
 use Rattle.kde.specs.declared.Tolerance.the-variants.{Ppm, Da, Pct}
 use Rattle.kde.specs.declared.BinCount.the-variants.{Bins, Refused}
-use Rattle.kde.specs.Bins.{estimatorOf}
+use Rattle.kde.specs.Bins.{estimator, estimatorOf}
 use Rattle.kde.specs.Estimate.{posteriorError}
 use Rattle.kde.specs.Tolerances.{binCountAnswer}
 use Rattle.kde.specs.LogErrors.{logError}
@@ -19,7 +19,7 @@ use Rattle.kde.specs.LogErrors.{logError}
 -- ---- "bins 0.5, 0.25, least 0, step 1: score 0.5 gives 0.375; 2 gives 0.25; −3 gives 1.25"
 
 abbrev pub unit : Estimator
-unit = record { «min_score» = fin false 0 (pos 0); «score_step» = fin false 1 (pos 0) }
+unit = estimator (fin false 0 (pos 0)) (fin false 1 (pos 0))
 
 abbrev pub halves : List Float
 halves = fin false 1 (negsuc 0) ∷ fin false 1 (negsuc 1) ∷ []

@@ -26,6 +26,7 @@ use Rattle.floats.proofs.Order.{le-right, lt-of-le-of-lt, lt-of-lt-of-le, lesse
 use Rattle.floats.proofs.Whole.{floor-then-convert}
 use Rattle.kde.specs.declared.Estimator.{Estimator}
 use Rattle.kde.specs.Estimate.{stepsUp, factor, interpolated, posteriorError}
+use Rattle.kde.proofs.Differences.{nought}
 
 -- ---- the conversion keeps the order
 
@@ -66,9 +67,6 @@ convert-lesser a b p q = elim (lesser-either a b) [
   | inl e ↦ rw e (let h : toUnsigned 64 a ≤ toUnsigned 64 b = convert-mono a b (rw e at (lesser-le-right a b q)) in omega arith)
   | inr e ↦ rw e (let h : toUnsigned 64 b ≤ toUnsigned 64 a = convert-mono b a (rw e at (lesser-le-left a b p)) in omega arith)
 ]
-
-abbrev nought : Float
-nought = fin false 0 (pos 0)
 
 -- what is below 0 converts to 0, and so does a NaN
 convert-above : (q : Float) → toUnsigned 64 (greater nought q) ≡ toUnsigned 64 q

@@ -43,14 +43,16 @@ leastScore scores = folded lesser largest scores
 abbrev pub greatestScore : List Float → Float
 greatestScore scores = folded greater (neg largest) scores
 
+-- an estimator's two numbers
+abbrev pub estimator : Float → Float → Estimator
+estimator least step = record { «min_score» = least; «score_step» = step }
+
 -- `bins` evenly spaced scores from the least on
 unfoldable pub estimatorOf : ℕ → List Float → Estimator
 unfolding folded
 estimatorOf bins scores =
-    record {
-      «min_score» = leastScore scores;
-      «score_step» = div binary64 (sub binary64 (greatestScore scores) (leastScore scores)) (ofInt binary64 (pos (bins - 1)));
-    }
+    estimator (leastScore scores)
+    (div binary64 (sub binary64 (greatestScore scores) (leastScore scores)) (ofInt binary64 (pos (bins - 1))))
 
 -- a bin's score: its number times the step, plus the least score
 abbrev pub binScore : Estimator → ℕ → Float

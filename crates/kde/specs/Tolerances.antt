@@ -1,10 +1,10 @@
 -- The bin count for mass errors. Document 01, module 4: "The bin count for mass error comes from a tolerance in ppm or Da: ceil of
 -- max(hi − lo, 100) or max(hi − lo, 1000)."
-use mathlib.Core.Bool.{cond}
+use mathlib.Core.Bool.{false, cond}
 use Prim.Native.Nat.{ℕ}
 use lib.IntN.{pos}
-use lib.Ieee.{Float, nan, inf, fin, binary32, toUnsigned, sub}
-use mathlib.Core.Bool.{false}
+use lib.Ieee.{Float, fin, binary32, toUnsigned, sub}
+use Rattle.floats.specs.Signs.{absolute}
 use Rattle.floats.specs.Whole.{ceiled}
 use Rattle.floats.specs.Least.{greater}
 use Rattle.columns.specs.declared.Refusal.the-variants.{OutOfRange, NoTolerance}
@@ -13,12 +13,6 @@ use Rattle.kde.specs.declared.Tolerance.the-variants.{Ppm, Da, Pct}
 use Rattle.kde.specs.declared.BinCount.{BinCount}
 use Rattle.kde.specs.declared.BinCount.the-variants.{Bins, Refused}
 use Rattle.kde.specs.Answers.{inRange}
-
--- Rust's abs()
-abbrev pub absolute : Float → Float
-absolute nan = nan
-absolute (inf s) = inf false
-absolute (fin s m e) = fin false m e
 
 -- Rust's (hi - lo).max(least).ceil().abs() as usize, in f32
 unfoldable pub binsAcross : Float → Float → Float → ℕ

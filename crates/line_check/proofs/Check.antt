@@ -13,7 +13,7 @@ use lib.ListN.{length}
 use Rattle.columns.specs.Refusals.{longest}
 use Rattle.columns.specs.declared.Refusal.the-variants.{TooLong, PastTheEnd}
 use Rattle.folds.proofs.Tests.{lt-or-ge}
-use Rattle.counting.specs.Labels.{decoys, targets}
+use Rattle.counting.specs.Labels.{targets}
 use Rattle.counting.specs.Lines.{qualifies, RightLine, rightLine}
 use Rattle.counting.proofs.Lines.{last-own, last-upper, right-line, right-line-only}
 use Rattle.line_check.specs.Check.{perOf, countsAt, lineAnswer}

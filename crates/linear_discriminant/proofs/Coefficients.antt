@@ -6,11 +6,8 @@ use native.Mathlib.Numerals.{add-one}
 use native.Mathlib.Omega.{arith}
 use lib.Ieee.{Float, nan, inf, fin, binary64, ofBits, lt, div, neg, round}
 use Rattle.folds.specs.Walks.{every}
-use Rattle.linear_discriminant.specs.Rows.{nought}
+use Rattle.gauss.specs.Elimination.{nought, one}
 use Rattle.linear_discriminant.specs.Scores.{isFinite}
-
-abbrev one : Float
-one = ofBits binary64 4607182418800017408
 
 pub between-infinities : (x : Float) → (lt x (div binary64 one nought) && lt (div binary64 (neg one) nought) x) ≡ isFinite x
 unfolding lt div neg ofBits round

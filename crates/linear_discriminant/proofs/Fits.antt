@@ -15,7 +15,7 @@ use Rattle.columns.specs.declared.Refusal.{Refusal}
 use Rattle.columns.specs.declared.Refusal.the-variants.{TooLong, WrongLength, OneClass}
 use Rattle.columns.specs.Refusals.{longest}
 use Rattle.counting.specs.Labels.{decoys, targets}
-use Rattle.gauss.specs.Elimination.{Row, Table, row}
+use Rattle.gauss.specs.Elimination.{nought, Row, Table, row}
 use Rattle.gauss.specs.Solutions.{solution}
 use Rattle.gauss.specs.declared.Solved.{Solved}
 use Rattle.gauss.specs.declared.Solved.the-variants as solved
@@ -23,7 +23,7 @@ use Rattle.gauss.specs.declared.Solution.{Solution}
 use Rattle.linear_discriminant.specs.declared.Trained.{Trained}
 use Rattle.linear_discriminant.specs.declared.Trained.the-variants.{Coefficients, Refused}
 use Rattle.linear_discriminant.specs.declared.Model.{Model}
-use Rattle.linear_discriminant.specs.Rows.{nought, feature}
+use Rattle.linear_discriminant.specs.Rows.{feature}
 use Rattle.linear_discriminant.specs.Fit.{inClass, classCount, asFloat, summed, mean, scatter, within, difference, leftSide, rightSide, trainedOf, modelOf, blankModel, fitted, trained}
 use Rattle.linear_discriminant.specs.Passes.{summedRows, meanOf, tableOf, halfOf, halves, scatterOf, withinRow, withinTable, lessRow, meansOf, fittedWith}
 use Rattle.folds.proofs.Walks.{across-same}

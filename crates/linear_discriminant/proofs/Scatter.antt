@@ -15,13 +15,13 @@ use borrow.Author.Tests.{lt-ltb, le-ltb, ltb-true}
 use Rattle.folds.specs.Walks.{steps, across}
 use Rattle.folds.specs.Columns.{tabulated}
 use Rattle.folds.proofs.Tests.{lt-or-ge}
-use Rattle.gauss.specs.Elimination.{Row, Table, row, entry}
-use Rattle.linear_discriminant.specs.Rows.{nought, feature}
+use Rattle.gauss.specs.Elimination.{nought, Row, Table, row, entry}
+use Rattle.linear_discriminant.specs.Rows.{feature}
 use Rattle.linear_discriminant.specs.Fit.{inClass, addTaken, summed, product}
 use Rattle.linear_discriminant.specs.Passes.{centredAt, centredRow, addProductOf, width, columnOf, tableOf, halfOf, placeOf, scatterOf}
 use Rattle.folds.proofs.Walks.{across-same, across-join}
 use Rattle.folds.proofs.Columns.{tabulated-same, tabulated-at}
-use Rattle.linear_discriminant.proofs.Halves.{other-has, column-at}
+use Rattle.linear_discriminant.proofs.Halves.{width-most, other-has, column-at}
 use Rattle.linear_discriminant.proofs.Piles.{kept-added}
 use Rattle.linear_discriminant.proofs.Slots.{Adds}
 
@@ -119,16 +119,9 @@ module _ (features : List Float) (labels : List ℤ) (mean : List Float) (c : �
       table : Table
       table = tableOf (halfOf features labels mean c n)
 
-      most : (j : ℕ) → width j ≤ 12
-      most j = go (ltb j 10)
-        where
-          go : (b : Bool) → cond b 12 10 ≤ 12
-          go true = omega arith
-          go false = omega arith
-
       read : (j k : ℕ) → j < 20 → k < 20 → placeOf j k < width j → entry table j (placeOf j k) ≡ summed (inClass labels c) (product features mu j k) n
       read j k h l p =
-          let m = most j in
+          let m = width-most j in
           let z : placeOf j k < 12 = omega arith in
           ap (λ (r : Row). getD r (placeOf j k) nan) (tabulated-at (λ j. tabulated (halfOf features labels mean c n j) 0 12) 20 j [] h)
           ∙ tabulated-at (halfOf features labels mean c n j) 12 (placeOf j k) nan z

@@ -10,8 +10,8 @@ use lib.Ieee.{Float, nan, binary64, add}
 use borrow.Author.Tests.{eq-eqb, ne-eqb}
 use Rattle.folds.specs.Walks.{steps, across}
 use Rattle.folds.specs.Columns.{tabulated}
-use Rattle.gauss.specs.Elimination.{Table, row}
-use Rattle.linear_discriminant.specs.Rows.{nought, feature}
+use Rattle.gauss.specs.Elimination.{nought, Table, row}
+use Rattle.linear_discriminant.specs.Rows.{feature}
 use Rattle.linear_discriminant.specs.Fit.{classOf, inClass, addTaken, summed}
 use Rattle.linear_discriminant.specs.Passes.{addedRow, sumRow, summedRows}
 use Rattle.folds.proofs.Walks.{across-last, across-join}

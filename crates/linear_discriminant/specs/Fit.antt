@@ -20,7 +20,8 @@ use Rattle.gauss.specs.Solutions.{solution}
 use Rattle.linear_discriminant.specs.declared.Trained.{Trained}
 use Rattle.linear_discriminant.specs.declared.Trained.the-variants.{Coefficients, Refused}
 use Rattle.linear_discriminant.specs.declared.Model.{Model}
-use Rattle.linear_discriminant.specs.Rows.{nought, feature}
+use Rattle.gauss.specs.Elimination.{nought}
+use Rattle.linear_discriminant.specs.Rows.{feature}
 
 -- ---- classes: "Index 0 = decoy, 1 = target"
 

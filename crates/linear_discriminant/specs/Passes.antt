@@ -10,10 +10,10 @@ use lib.ListN.{length, getD, set, replicate}
 use lib.Ieee.{Float, nan, binary64, add, sub, mul, div}
 use Rattle.folds.specs.Walks.{across}
 use Rattle.folds.specs.Columns.{tabulated}
-use Rattle.gauss.specs.Elimination.{Table, row, entry}
+use Rattle.gauss.specs.Elimination.{nought, Table, row, entry}
 use Rattle.gauss.specs.Solutions.{solution}
 use Rattle.linear_discriminant.specs.declared.Model.{Model}
-use Rattle.linear_discriminant.specs.Rows.{nought, feature}
+use Rattle.linear_discriminant.specs.Rows.{feature}
 use Rattle.linear_discriminant.specs.Fit.{classOf, inClass, asFloat, summed, product, modelOf}
 
 -- ---- pass 1

@@ -3,12 +3,9 @@
 use Prim.Native.Nat.{ℕ, _+_, _*_}
 use mathlib.Core.List.{List}
 use lib.ListN.{getD}
-use lib.Ieee.{Float, nan, binary64, ofBits, add, mul}
+use lib.Ieee.{Float, nan, binary64, add, mul}
 use Rattle.folds.specs.Walks.{across}
-
--- +0.0
-abbrev pub nought : Float
-nought = ofBits binary64 0
+use Rattle.gauss.specs.Elimination.{nought}
 
 -- number j of row i of a feature column
 abbrev pub feature : List Float → ℕ → ℕ → Float

@@ -1,4 +1,4 @@
--- The numbers by which C and Rust hand over builders, estimators, tolerances and names, and those that stand for the cases of an answer.
+-- The numbers by which C and Rust hand over builders, tolerances and names, and those that stand for the cases of an answer.
 use mathlib.Core.List.{List}
 use mathlib.Core.Bool.{not, cond}
 use Prim.Native.Nat.{ℕ}
@@ -13,7 +13,6 @@ use Rattle.ranking.specs.Keys.{sorted}
 use Rattle.fdr.specs.declared.Names.{Names}
 use Rattle.fdr.specs.declared.Names.the-variants.{Two, One}
 use Rattle.kde.specs.declared.Builder.{Builder}
-use Rattle.kde.specs.declared.Estimator.{Estimator}
 use Rattle.kde.specs.declared.Tolerance.{Tolerance}
 use Rattle.kde.specs.declared.Tolerance.the-variants.{Ppm, Da, Pct}
 use lib.Ieee.{Float}
@@ -43,10 +42,6 @@ keysColumn keys spare = cond (leb (length keys) longest) (cond (eqb spare (lengt
 -- A builder's flag as a number: any but 0 asks for monotonic bins.
 abbrev pub builderOf : ℕ → ℕ → Builder
 builderOf monotonic bins = record { monotonic = not (eqb monotonic 0); bins = bins }
-
--- an estimator from its least score and its step
-abbrev pub estimatorOf : Float → Float → Estimator
-estimatorOf least step = record { «min_score» = least; «score_step» = step }
 
 -- A tolerance's unit as a number: 0 is ppm, 1 is Da; any other is none that question 4 lets pass.
 abbrev pub toleranceOf : ℕ → Float → Float → Tolerance

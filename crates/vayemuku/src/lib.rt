@@ -15,7 +15,7 @@ ghost use Rattle.linear_discriminant.specs.Rows.{scored};
 ghost use Rattle.linear_discriminant.specs.Fit.{trained, trainedNumber};
 ghost use Rattle.linear_discriminant.specs.Scores.{scoredRows};
 ghost use Rattle.kde.specs.Answers.{builtNumber, builtLeast, builtStep, posteriorNumber, posteriorValue, binCountNumber, binCountBins};
-ghost use Rattle.kde.specs.Bins.{binScoresAnswer, binScoresColumn, binsAsked, labelBins, slotBins};
+ghost use Rattle.kde.specs.Bins.{estimator, binScoresAnswer, binScoresColumn, binsAsked, labelBins, slotBins};
 ghost use Rattle.kde.specs.Estimate.{posteriorAnswer, errorsAnswer, errorsColumn};
 ghost use Rattle.kde.specs.Tolerances.{binCountAnswer};
 ghost use Rattle.kde.specs.LogErrors.{logError, logErrorsAnswer, logErrorsColumn};
@@ -24,7 +24,7 @@ ghost use Rattle.competition.specs.Winners.{winnersAnswer, winnerScores, winner
 ghost use Rattle.fdr.specs.QValues.{assignAnswer, assignColumn};
 ghost use Rattle.line_check.specs.Check.{lineAnswer};
 ghost use Rattle.precursor.specs.Precursors.{precursorAnswer, precursorColumn, ranksAnswer, ranksColumn};
-ghost use Rattle.vayemuku.specs.Numbers.{signOf, numbersOf, keysNumber, keysColumn, toleranceOf, builderOf, estimatorOf, namesOf};
+ghost use Rattle.vayemuku.specs.Numbers.{signOf, numbersOf, keysNumber, keysColumn, toleranceOf, builderOf, namesOf};
 use fdr::Names;
 use floats::Ordering;
 use gauss::Solved;
@@ -275,7 +275,7 @@ fn built_number(answer: Built) -> u32
 
 // The estimator's two numbers, or two NaN.
 fn built_estimator(answer: Built) -> Estimator
-    ensures { λ r. ⌜ r ≡ estimatorOf (builtLeast answer) (builtStep answer) ⌝ }
+    ensures { λ r. ⌜ r ≡ estimator (builtLeast answer) (builtStep answer) ⌝ }
 {
     match answer {
         Built::Made(estimator) => estimator,
@@ -390,8 +390,8 @@ pub extern "C" fn vayemuku_posterior_error(
     score: f64,
     error: &mut f64,
 ) -> u32
-    ensures number { λ r. ⌜ r ≡ posteriorNumber (posteriorAnswer (estimatorOf «min_score» «score_step») (now (bins .entry)) score) ⌝ }
-    ensures error { λ _. ⌜ now (error .exit) ≡ posteriorValue (posteriorAnswer (estimatorOf «min_score» «score_step») (now (bins .entry)) score) ⌝ }
+    ensures number { λ r. ⌜ r ≡ posteriorNumber (posteriorAnswer (estimator «min_score» «score_step») (now (bins .entry)) score) ⌝ }
+    ensures error { λ _. ⌜ now (error .exit) ≡ posteriorValue (posteriorAnswer (estimator «min_score» «score_step») (now (bins .entry)) score) ⌝ }
 {
     let estimator = Estimator {
         min_score,
@@ -412,7 +412,7 @@ pub extern "C" fn vayemuku_posterior_errors(
     errors: &mut [f64],
 ) -> u32
     ensures number { λ r. ⌜ r ≡ outcomeNumber (errorsAnswer (now (bins .entry)) (now (scores .entry)) (length (now (errors .entry)))) ⌝ }
-    ensures column { λ _. ⌜ now (errors .exit) ≡ errorsColumn (estimatorOf «min_score» «score_step») (now (bins .entry)) (now (scores .entry)) (now (errors .entry)) ⌝ }
+    ensures column { λ _. ⌜ now (errors .exit) ≡ errorsColumn (estimator «min_score» «score_step») (now (bins .entry)) (now (scores .entry)) (now (errors .entry)) ⌝ }
 {
     let estimator = Estimator {
         min_score,
@@ -572,11 +572,11 @@ pub extern "C" fn vayemuku_assign_q_value(
     q: &mut [f32],
     count: &mut usize,
 ) -> u32
-    ensures number { λ r. ⌜ r ≡ countedNumber (assignAnswer (estimatorOf «min_score» «score_step») (now (bins .entry)) (tableOf (now (forward .entry)) (now (reverse .entry)) (now («forward_seen» .entry)) (now («reverse_seen» .entry))) (now (slots .entry)) (length (now (labels .entry))) (length (now (keys .entry))) (length (now (spare .entry))) (length (now (q .entry)))) ⌝ }
+    ensures number { λ r. ⌜ r ≡ countedNumber (assignAnswer (estimator «min_score» «score_step») (now (bins .entry)) (tableOf (now (forward .entry)) (now (reverse .entry)) (now («forward_seen» .entry)) (now («reverse_seen» .entry))) (now (slots .entry)) (length (now (labels .entry))) (length (now (keys .entry))) (length (now (spare .entry))) (length (now (q .entry)))) ⌝ }
     ensures keys { λ _. ⌜ now (keys .exit) ≡ filled 0 (now (keys .entry)) ⌝ }
     ensures spare { λ _. ⌜ now (spare .exit) ≡ filled 0 (now (spare .entry)) ⌝ }
-    ensures column { λ _. ⌜ now (q .exit) ≡ assignColumn (namesOf «two_names») (estimatorOf «min_score» «score_step») (now (bins .entry)) (tableOf (now (forward .entry)) (now (reverse .entry)) (now («forward_seen» .entry)) (now («reverse_seen» .entry))) (now (slots .entry)) (now (labels .entry)) (length (now (keys .entry))) (length (now (spare .entry))) (now (q .entry)) ⌝ }
-    ensures count { λ _. ⌜ now (count .exit) ≡ countedCount (assignAnswer (estimatorOf «min_score» «score_step») (now (bins .entry)) (tableOf (now (forward .entry)) (now (reverse .entry)) (now («forward_seen» .entry)) (now («reverse_seen» .entry))) (now (slots .entry)) (length (now (labels .entry))) (length (now (keys .entry))) (length (now (spare .entry))) (length (now (q .entry)))) ⌝ }
+    ensures column { λ _. ⌜ now (q .exit) ≡ assignColumn (namesOf «two_names») (estimator «min_score» «score_step») (now (bins .entry)) (tableOf (now (forward .entry)) (now (reverse .entry)) (now («forward_seen» .entry)) (now («reverse_seen» .entry))) (now (slots .entry)) (now (labels .entry)) (length (now (keys .entry))) (length (now (spare .entry))) (now (q .entry)) ⌝ }
+    ensures count { λ _. ⌜ now (count .exit) ≡ countedCount (assignAnswer (estimator «min_score» «score_step») (now (bins .entry)) (tableOf (now (forward .entry)) (now (reverse .entry)) (now («forward_seen» .entry)) (now («reverse_seen» .entry))) (now (slots .entry)) (length (now (labels .entry))) (length (now (keys .entry))) (length (now (spare .entry))) (length (now (q .entry)))) ⌝ }
 {
     let estimator = Estimator {
         min_score,

@@ -7,7 +7,7 @@ use native.Mathlib.Omega.{arith}
 use lib.Dec.{T, le→leb}
 use lib.ListN.{length, getD}
 use lib.Ieee.{Float, inFloat, isNan}
-use Rattle.fdr.specs.QValues.{one}
+use Rattle.counting.specs.QValues.{one}
 use Rattle.fdr.proofs.Keys.{one-number, least-number}
 use Rattle.competition.specs.Tables.{tableOf}
 use Rattle.fdr.proofs.Ratios.{Summing, summing-start, summing-within, summing-few, summing-step, summing-done}

@@ -10,12 +10,13 @@ use lib.Ieee.{Float, binary32, binary64, neg, div, ofBits, toBits, fits, isNan}
 use lib.Ieee.Fits.{and-i, neg-fits, cond-fits, fits-widens}
 use lib.Ieee.Bits.{nanBits-is, ofBits-toBits}
 use Rattle.floats.specs.Convert.{converted}
-use Rattle.floats.specs.TotalOrder.{negative}
+use Rattle.floats.specs.Signs.{negative, absolute}
 use lib.Ieee.Compare.{differs-from-itself}
 use denote.Floats.{passes}
 use Rattle.floats.proofs.Least.{not-nan}
-use Rattle.floats.proofs.Fields.{absolute, absolute-number, absolute-plus, sign-off, sign-part, sign-on, magnitude-bits}
-use Rattle.floats.proofs.Narrowed.{resigned, converted-fits, converted-not-nan, converted-plus}
+use Rattle.floats.proofs.Signs.{absolute-number, absolute-plus, converted-sign}
+use Rattle.floats.proofs.Fields.{sign-off, sign-part, sign-on, magnitude-bits}
+use Rattle.floats.proofs.Narrowed.{resigned, converted-fits, converted-not-nan}
 use Rattle.floats.proofs.narrow.Statement.{statement}
 use Rattle.floats.proofs.narrow.Tie as tie
 
@@ -28,7 +29,7 @@ number c = not-nan (c .before .args .x) (c .if1 .left)
 
 -- what is passed on is the magnitude
 passed : (c : tie.Else1) → ofBits binary64 (toBits binary64 (c .before .args .x) % 9223372036854775808) ≡ absolute (c .before .args .x)
-passed c = sign-off (c .before .args .x) (passes _ (c .before .good .0 .1)) (number c)
+passed c = sign-off (c .before .args .x) (passes _ (c .before .good .0 .1))
 
 float-from-bits-nearest-f32 : tie.Need-float-from-bits-nearest-f32
 float-from-bits-nearest-f32 c =
@@ -50,7 +51,7 @@ module _ (c : tie.After-nearest-f32) where
       (converted-not-nan binary32 (absolute (c .before .before .args .x)) (absolute-number (c .before .before .args .x) (number (c .before))))
 
   came-plus : negative (c .nearest-f32 .result) ≡ false
-  came-plus = ap negative came ∙ converted-plus binary32 (c .before .before .args .x)
+  came-plus = ap negative came ∙ converted-sign binary32 (absolute (c .before .before .args .x)) ∙ absolute-plus (c .before .before .args .x)
 
   came-fits : T (fits binary32 (c .nearest-f32 .result))
   came-fits = subst (λ (y : Float). T (fits binary32 y)) (sym came) (converted-fits binary32 (absolute (c .before .before .args .x)))
@@ -63,7 +64,7 @@ module _ (c : tie.After-nearest-f32) where
       let x = c .before .before .args .x in
       let y = c .nearest-f32 .result in
       ap (ofBits binary64)
-      (ap (λ (s : ℕ). toBits binary64 y + s) (sign-part x (passes _ (c .before .before .good .0 .1)) (number (c .before))) ∙ sign-on (negative x) y came-number came-plus)
+      (ap (λ (s : ℕ). toBits binary64 y + s) (sign-part x (passes _ (c .before .before .good .0 .1))) ∙ sign-on (negative x) y came-number came-plus)
       ∙ ofBits-toBits binary64 (cond (negative x) (neg y) y)
       (cond-fits binary64 (negative x) (neg y) y (neg-fits binary64 y (fits-widens y came-fits)) (fits-widens y came-fits))
       ∙ ap (λ (z : Float). cond (negative x) (neg z) z) came
@@ -71,11 +72,11 @@ module _ (c : tie.After-nearest-f32) where
 
 add-result : tie.Need-add-result
 add-result c =
-    omega (arith, magnitude-bits (c .nearest-f32 .result) (fits-widens (c .nearest-f32 .result) (came-fits c)) (came-number c) (came-plus c), sign-small c)
+    omega (arith, magnitude-bits (c .nearest-f32 .result) (fits-widens (c .nearest-f32 .result) (came-fits c)) (came-plus c), sign-small c)
   where
     sign-small : (c : tie.After-nearest-f32) → toBits binary64 (c .before .before .args .x) - toBits binary64 (c .before .before .args .x) % 9223372036854775808 < 9223372036854775809
     sign-small c =
-        subst (λ (s : ℕ). s < 9223372036854775809) (sym (sign-part (c .before .before .args .x) (passes _ (c .before .before .good .0 .1)) (number (c .before)))) (one-bit (negative (c .before .before .args .x)))
+        subst (λ (s : ℕ). s < 9223372036854775809) (sym (sign-part (c .before .before .args .x) (passes _ (c .before .before .good .0 .1)))) (one-bit (negative (c .before .before .args .x)))
       where
         one-bit : (s : Bool) → cond s 9223372036854775808 0 < 9223372036854775809
         one-bit s = elim s [ true ↦ lit< tt | false ↦ lit< tt ]

@@ -2,7 +2,7 @@
 use Prim.Native.Nat.{_/_}
 use lib.ListN.{length, replicate}
 use borrow.Author.Needs.{needs}
-use Rattle.linear_discriminant.specs.Rows.{nought}
+use Rattle.gauss.specs.Elimination.{nought}
 use Rattle.linear_discriminant.proofs.Sums.{sums-join}
 use Rattle.linear_discriminant.proofs.class_sums.Statement.{statement}
 use Rattle.linear_discriminant.proofs.class_sums.Tie as tie

@@ -1,0 +1,15 @@
+-- A float's sign and its magnitude.
+use mathlib.Core.Bool.{Bool, false}
+use lib.Ieee.{Float, nan, inf, fin}
+
+-- whether the sign is minus; the NaN counts as plus
+abbrev pub negative : Float → Bool
+negative nan = false
+negative (inf s) = s
+negative (fin s m e) = s
+
+-- Rust's abs()
+abbrev pub absolute : Float → Float
+absolute nan = nan
+absolute (inf s) = inf false
+absolute (fin s m e) = fin false m e
