@@ -55,6 +55,10 @@ pub struct Rescored {
 ///
 /// `keys` has one entry per row: what the row's target protein is known by, a decoy's being that of the protein it was made
 /// from; None for a row that several proteins share. `names` tells whether a decoy's name is its own.
+///
+/// # Panics
+///
+/// Where there are fewer keys than rows.
 pub fn rescore(
     rows: &[Psm],
     keys: &[Option<&[u8]>],
@@ -86,7 +90,7 @@ fn ranked<T: Copy>(order: &[usize], column: &[T]) -> Vec<T> {
 }
 
 /// The features of all rows, with the posterior errors of their mass errors among them.
-pub fn features(
+fn features(
     rows: &[Psm],
     labels: &[i32],
     tolerance: Tolerance,

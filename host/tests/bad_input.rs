@@ -13,22 +13,22 @@ const NUMBERS: [(&str, &str); 23] = [
     ("hyperscore", "no number"),
     ("delta_next", "no number"),
     ("delta_best", "no number"),
-    ("precursor_ppm", "no number"),
-    ("expmass", "no number"),
-    ("calcmass", "no number"),
-    ("isotope_error", "no number"),
-    ("fragment_ppm", "no number"),
+    ("precursor_ppm", "no number of 32 bits"),
+    ("expmass", "no number of 32 bits"),
+    ("calcmass", "no number of 32 bits"),
+    ("isotope_error", "no number of 32 bits"),
+    ("fragment_ppm", "no number of 32 bits"),
     ("poisson", "no number"),
-    ("matched_intensity_pct", "no number"),
+    ("matched_intensity_pct", "no number of 32 bits"),
     ("matched_peaks", "no whole number from 0 to 4,294,967,295"),
     ("longest_b", "no whole number from 0 to 4,294,967,295"),
     ("longest_y", "no whole number from 0 to 4,294,967,295"),
     ("peptide_len", "no whole number from 0 to 4,294,967,295"),
     ("missed_cleavages", "no whole number from 0 to 255"),
-    ("aligned_rt", "no number"),
-    ("ion_mobility", "no number"),
-    ("delta_rt_model", "no number"),
-    ("delta_mobility", "no number"),
+    ("aligned_rt", "no number of 32 bits"),
+    ("ion_mobility", "no number of 32 bits"),
+    ("delta_rt_model", "no number of 32 bits"),
+    ("delta_mobility", "no number of 32 bits"),
     ("num_proteins", "no whole number from 0 to 4,294,967,295"),
     ("label", "no label, which is a whole number of 32 bits, -1 for a decoy"),
 ];
@@ -97,7 +97,7 @@ fn a_cell_that_is_no_number() {
     let folder = Folder::new("no-number");
     let sample = folder.sample(5);
     for (column, none) in NUMBERS {
-        for cell in ["abc", "", "NaN", "1.5.", "99999999999999999999x"] {
+        for cell in ["abc", "", "NaN", "1.5.", "99999999999999999999x", "-1e400"] {
             let line = format!("in.tsv: row 4 (line 5): column {column}: '{cell}' is {none}");
             rescore_fails(&folder, sample.with(4, column, cell).text(), &line);
         }
@@ -133,8 +133,8 @@ fn a_score_or_q_value_that_is_no_number() {
     let folder = Folder::new("no-score");
     let list = Cells::of(LIST, 3);
     for column in ["sage_discriminant_score", "spectrum_q"] {
-        for cell in ["", "NaN", "high"] {
-            let line = format!("in.tsv: row 3 (line 4): column {column}: '{cell}' is no number");
+        for cell in ["", "NaN", "high", "1e39"] {
+            let line = format!("in.tsv: row 3 (line 4): column {column}: '{cell}' is no number of 32 bits");
             check_fails(&folder, list.with(3, column, cell).text(), &line);
         }
     }
@@ -285,6 +285,17 @@ fn what_a_killed_run_left_is_in_no_ones_way() {
 }
 
 #[test]
+fn a_refusal_is_told_though_its_list_does_not_become_whole() {
+    let folder = Folder::new("refused-not-whole");
+    folder.write("in.tsv", folder.sample(600).with_all("label", "1").with_all("num_proteins", "2").text());
+    let ran = folder.run_shell("trap '' XFSZ; ulimit -f 8; exec \"$0\" rescore in.tsv out.tsv");
+    let refused = "vayemuku: in.tsv: vayemuku_train refused with 6: the fit needs at least one decoy and one target\n";
+    let unwritten = "vayemuku: out.tsv: it cannot be written: File too large (os error 27)\n";
+    assert_eq!((ran.status, ran.stdout.as_str(), ran.stderr), (Some(3), "", format!("{refused}{unwritten}")));
+    assert_eq!(folder.files(), ["in.tsv"]);
+}
+
+#[test]
 fn standard_output_that_cannot_be_written() {
     let folder = Folder::new("full");
     folder.write("in.tsv", LIST);
@@ -292,6 +303,11 @@ fn standard_output_that_cannot_be_written() {
         let ran = folder.run_shell(&format!("exec \"$0\" {words} > /dev/full"));
         ran.failed(3, "standard output: No space left on device (os error 28)");
     }
+    // the list of a rescoring is there then
+    folder.write("in.tsv", folder.sample(60).text());
+    let ran = folder.run_shell("exec \"$0\" rescore in.tsv out.tsv > /dev/full");
+    ran.failed(3, "standard output: No space left on device (os error 28)");
+    assert_eq!(folder.files(), ["in.tsv", "out.tsv"]);
 }
 
 #[test]

@@ -146,8 +146,19 @@ fn columns_are_found_by_their_names() {
     for column in &list.0[0] {
         assert_eq!(other.column(column), list.column(column), "{column}");
     }
-    // without --batch the batch is the file's name
-    assert!(list.column("batch").iter().all(|cell| *cell == "in"));
+}
+
+#[test]
+fn the_batch_is_the_files_name_unless_it_is_given() {
+    let folder = Folder::new("batch");
+    let sample = folder.sample(60);
+    for (file, batch) in [("day.1", "day.1"), ("day.2.tsv", "day.2")] {
+        folder.write(file, sample.text());
+        assert_eq!(folder.run(&format!("rescore {file} out.tsv")).status, Some(0));
+        let list = folder.read("out.tsv");
+        assert!(list.lines().skip(1).all(|line| line.ends_with(&format!("\t{batch}"))), "{file}");
+        folder.remove("out.tsv");
+    }
 }
 
 #[test]

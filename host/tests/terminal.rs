@@ -66,7 +66,7 @@ fn rescored(folder: &Folder, text: &str, time: Duration, on_terminal: bool) -> S
 fn progress_is_told_on_a_terminal_after_a_second() {
     let folder = Folder::new("terminal");
     let sample = folder.sample(60).text();
-    let long = Duration::from_millis(1100);
+    let long = Duration::from_secs(3);
     assert_eq!(rescored(&folder, &sample, Duration::ZERO, true), "");
     assert_eq!(rescored(&folder, &sample, long, false), "");
     let told = rescored(&folder, &sample, long, true);

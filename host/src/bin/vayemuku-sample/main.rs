@@ -1,7 +1,7 @@
 //! Makes two tables in the shape of sage's results table, from a fixed seed: the same bytes on every machine.
 //!
 //! `good.tsv` is a batch of 20,000 rows that rescores well. In `refused.tsv` one row of 2,000 has an infinite
-//! matched_intensity_pct, as sage writes it where a spectrum's total ion current is 0: no fit is found.
+//! matched_intensity_pct, as sage writes it where matched peaks have an intensity and the spectrum has none: no fit is found.
 
 mod random;
 mod rows;

@@ -23,8 +23,8 @@ vayemuku check LIST.tsv --line N [--rate 100|20]
 vayemuku help | version
 
 Status: 0 all is well; 1 the line or the q-values are wrong; 2 the command line means nothing; 3 a file cannot be read
-or written, or holds what it should not: no list was written; 4 a call refused: a list was written with every fresh
-column empty (rescore), or the line is past the list (check).";
+or written, or holds what it should not: no list was written; or standard output cannot be written; 4 a call refused: a
+list was written with every fresh column empty (rescore), or the line is past the list (check).";
 
 /// What the program is asked to do.
 #[derive(Debug, PartialEq)]
@@ -199,10 +199,8 @@ fn no_tolerance<T>(words: &str) -> Result<T, Problem> {
 
 /// The batch: the name given, or that of the file.
 fn batch(given: Option<&str>, input: &Path) -> Result<String, Problem> {
-    let name = match given {
-        Some(name) => name.to_string(),
-        None => input.file_stem().unwrap_or_default().to_string_lossy().into_owned(),
-    };
+    let file = input.file_name().unwrap_or_default().to_string_lossy();
+    let name = given.unwrap_or(file.strip_suffix(".tsv").unwrap_or(&file)).to_string();
     match name.is_empty() || name.contains(char::is_control) {
         true => usage("the batch needs a name without tabs or line ends: give one by --batch NAME"),
         false => Ok(name),

@@ -15,16 +15,22 @@ impl Cell for f64 {
     const NONE: &'static str = "no number";
 
     fn from_text(text: &str) -> Option<Self> {
-        text.parse().ok().filter(|number: &f64| !number.is_nan())
+        text.parse().ok().filter(|number: &f64| number.is_finite() || is_infinity(text))
     }
 }
 
 impl Cell for f32 {
-    const NONE: &'static str = "no number";
+    const NONE: &'static str = "no number of 32 bits";
 
     fn from_text(text: &str) -> Option<Self> {
-        text.parse().ok().filter(|number: &f32| !number.is_nan())
+        text.parse().ok().filter(|number: &f32| number.is_finite() || is_infinity(text))
     }
+}
+
+/// Whether a text that is read as no finite number is an infinity by its own words, and not a NaN or a number past the width.
+fn is_infinity(text: &str) -> bool {
+    let word = text.trim_start_matches(['+', '-']);
+    word.eq_ignore_ascii_case("inf") || word.eq_ignore_ascii_case("infinity")
 }
 
 impl Cell for u8 {
@@ -79,8 +85,11 @@ mod tests {
     fn numbers_and_what_is_none() {
         assert_eq!(number::<f64>("x", b"-inf"), Ok(f64::NEG_INFINITY));
         assert_eq!(number::<f32>("x", b"1e-3"), Ok(0.001));
+        assert_eq!(number::<f32>("x", b"-inf"), Ok(f32::NEG_INFINITY));
+        assert_eq!(number::<f32>("x", b"3.4028235e38"), Ok(f32::MAX));
+        assert_eq!(number::<f32>("x", b"1e39"), Err("column x: '1e39' is no number of 32 bits".into()));
         assert_eq!(number::<u8>("charge", b"300"), Err("column charge: '300' is no whole number from 0 to 255".into()));
-        for cell in [&b"NaN"[..], b"", b" 1", b"1 ", b"1,5", b"0x10", b"\xff"] {
+        for cell in [&b"NaN"[..], b"", b" 1", b"1 ", b"1,5", b"0x10", b"\xff", b"1e400", b"-1e400"] {
             assert!(number::<f64>("x", cell).is_err(), "{cell:?}");
         }
     }

@@ -5,34 +5,36 @@ use std::fs::File;
 use std::io::{BufWriter, Error, ErrorKind, Write};
 use std::path::{Path, PathBuf};
 
-/// A file under another name in the same folder, until it is finished; it is removed if it never is.
+/// A file under another name in the same folder, until it is finished; that name is removed in the end.
 pub struct Draft {
     file: BufWriter<File>,
     draft: PathBuf,
     path: PathBuf,
-    finished: bool,
 }
 
 /// Refuses a path under which there is something.
-fn refuse_existing(path: &Path) -> Result<(), Problem> {
-    let why = "it is there already, and no list is written over";
+fn refuse_existing(path: &Path) -> Result<(), Error> {
     match path.symlink_metadata() {
-        Ok(_) => Err(Problem::with_file(&path.display().to_string(), why)),
+        Ok(_) => Err(ErrorKind::AlreadyExists.into()),
         Err(_) => Ok(()),
     }
 }
 
 /// The problem of a file that cannot be written.
 fn unwritten(path: &Path, why: Error) -> Problem {
-    Problem::with_file(&path.display().to_string(), format!("it cannot be written: {why}"))
+    let why = match why.kind() {
+        ErrorKind::AlreadyExists => "it is there already, and no list is written over".to_string(),
+        _ => format!("it cannot be written: {why}"),
+    };
+    Problem::with_file(&path.display().to_string(), why)
 }
 
 impl Draft {
     /// Starts a file that will have this path, under which there is nothing yet.
     pub fn new(path: &Path) -> Result<Draft, Problem> {
-        refuse_existing(path)?;
-        let (file, draft) = open(path).map_err(|why| unwritten(path, why))?;
-        Ok(Draft { file: BufWriter::new(file), draft, path: path.to_path_buf(), finished: false })
+        let opened = refuse_existing(path).and_then(|_| open(path));
+        let (file, draft) = opened.map_err(|why| unwritten(path, why))?;
+        Ok(Draft { file: BufWriter::new(file), draft, path: path.to_path_buf() })
     }
 
     /// What to write to.
@@ -48,11 +50,17 @@ impl Draft {
     /// Gives the file its name.
     pub fn finish(mut self) -> Result<(), Problem> {
         let written = self.file.flush().and_then(|_| self.file.get_ref().sync_all());
-        written.map_err(|why| self.problem(why))?;
-        refuse_existing(&self.path)?;
-        std::fs::rename(&self.draft, &self.path).map_err(|why| self.problem(why))?;
-        self.finished = true;
-        Ok(())
+        written.and_then(|_| name(&self.draft, &self.path)).map_err(|why| self.problem(why))
+    }
+}
+
+/// Gives a draft a name that nothing has. Where a folder allows no second name for a file, it is renamed.
+fn name(draft: &Path, path: &Path) -> Result<(), Error> {
+    match std::fs::hard_link(draft, path) {
+        Err(why) if why.kind() != ErrorKind::AlreadyExists => {
+            refuse_existing(path).and_then(|_| std::fs::rename(draft, path))
+        }
+        named => named,
     }
 }
 
@@ -70,9 +78,27 @@ fn open(path: &Path) -> Result<(File, PathBuf), Error> {
 
 impl Drop for Draft {
     fn drop(&mut self) {
-        if !self.finished {
-            // what cannot be removed is still no list
-            let _ = std::fs::remove_file(&self.draft);
-        }
+        // what is not there any more was renamed, and what cannot be removed is still no list
+        let _ = std::fs::remove_file(&self.draft);
+    }
+}
+
+#[cfg(test)]
+mod tests {
+    use super::*;
+
+    #[test]
+    fn a_name_that_was_taken_meanwhile_is_not_written_over() {
+        let folder = std::env::temp_dir().join(format!("vayemuku-draft-{}", std::process::id()));
+        std::fs::create_dir(&folder).unwrap();
+        let path = folder.join("out.tsv");
+        let mut draft = Draft::new(&path).ok().unwrap();
+        draft.file().write_all(b"a later list\n").unwrap();
+        std::fs::write(&path, "an earlier list\n").unwrap();
+        let why = "it is there already, and no list is written over";
+        assert_eq!(draft.finish(), Err(Problem::with_file(&path.display().to_string(), why)));
+        assert_eq!(std::fs::read(&path).unwrap(), b"an earlier list\n");
+        assert_eq!(std::fs::read_dir(&folder).unwrap().count(), 1);
+        std::fs::remove_dir_all(&folder).unwrap();
     }
 }

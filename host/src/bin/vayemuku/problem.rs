@@ -1,4 +1,4 @@
-//! What goes wrong: a line on standard error, and a status.
+//! What goes wrong: what standard error says, and a status.
 
 use std::fmt::Display;
 use std::io::{ErrorKind, Write};
@@ -11,8 +11,10 @@ pub enum Problem {
     Usage(String),
     /// A file cannot be read or written, or holds what it should not: status 3.
     File(String),
-    /// A call refused: status 4; notes may follow the line.
-    Refused(String, Vec<String>),
+    /// A call refused, and then the list could not be written: status 3; what was refused comes first.
+    Unwritten(Vec<String>),
+    /// A call refused: status 4; lines may follow the first.
+    Refused(Vec<String>),
 }
 
 impl Problem {
@@ -23,18 +25,32 @@ impl Problem {
 
     /// A call's refusal, told of a file.
     pub fn refused(name: &str, why: impl Display) -> Problem {
-        Problem::Refused(format!("{name}: {why}"), Vec::new())
+        Problem::Refused(vec![format!("{name}: {why}")])
     }
 
-    /// Writes the line, and gives the status.
+    /// The problem of a list that could not be written after a call had refused, as these lines tell.
+    pub fn after(self, mut refused: Vec<String>) -> Problem {
+        refused.extend(self.lines());
+        Problem::Unwritten(refused)
+    }
+
+    /// What is told.
+    fn lines(self) -> Vec<String> {
+        match self {
+            Problem::Usage(why) => vec![format!("{why}; `vayemuku help` tells more")],
+            Problem::File(why) => vec![why],
+            Problem::Unwritten(lines) | Problem::Refused(lines) => lines,
+        }
+    }
+
+    /// Writes the lines, and gives the status.
     pub fn report(self) -> ExitCode {
-        let (status, line, notes) = match self {
-            Problem::Usage(why) => (2, format!("{why}; `vayemuku help` tells more"), Vec::new()),
-            Problem::File(why) => (3, why, Vec::new()),
-            Problem::Refused(why, notes) => (4, why, notes),
+        let status = match self {
+            Problem::Usage(_) => 2,
+            Problem::File(_) | Problem::Unwritten(_) => 3,
+            Problem::Refused(_) => 4,
         };
-        warn(line);
-        notes.into_iter().for_each(warn);
+        self.lines().into_iter().for_each(warn);
         ExitCode::from(status)
     }
 }

@@ -25,18 +25,22 @@ pub fn run(job: &Rescore) -> Result<bool, Problem> {
         let mut densities = Watched { progress: &mut progress };
         rescore(&psms.rows, &psms.keys, job.decoys.names(), job.tolerance, &mut densities)
     };
-    let mut draft = Draft::new(&job.output)?;
-    let date = today()?;
-    let list = List { table: &table, rescored: answer.as_ref().ok(), date: &date, batch: &job.batch };
-    match list.write(draft.file(), &mut progress) {
-        Ok(()) => draft.finish()?,
-        Err(Failure::Write(why)) => return Err(draft.problem(why)),
-        Err(Failure::Problem(problem)) => return Err(problem),
-    }
+    let written = write(job, &table, answer.as_ref().ok(), &mut progress);
     progress.finish();
     match answer {
-        Ok(rescored) => report(job, &psms, &rescored),
-        Err(refused) => Err(refusal(job, &table, &psms, refused)),
+        Ok(rescored) => written.and_then(|_| report(job, &psms, &rescored)),
+        Err(refused) => Err(refusal(job, &table, &psms, refused, written)),
+    }
+}
+
+/// Writes the list, whose fresh columns are empty where nothing was rescored.
+fn write(job: &Rescore, table: &Table, rescored: Option<&Rescored>, progress: &mut Progress) -> Result<(), Problem> {
+    let mut draft = Draft::new(&job.output)?;
+    let list = List { table, rescored, date: &today()?, batch: &job.batch };
+    match list.write(draft.file(), progress) {
+        Ok(()) => draft.finish(),
+        Err(Failure::Write(why)) => Err(draft.problem(why)),
+        Err(Failure::Problem(problem)) => Err(problem),
     }
 }
 
@@ -59,14 +63,17 @@ fn report(job: &Rescore, psms: &Psms, rescored: &Rescored) -> Result<bool, Probl
     Ok(matches!(rescored.line, Line::Right(_)))
 }
 
-/// That a call refused, which row may be the cause, and where the list is.
-fn refusal(job: &Rescore, table: &Table, psms: &Psms, refused: Refused) -> Problem {
-    let mut notes = Vec::new();
-    if let Some(why) = not_finite(&psms.rows, job.tolerance) {
-        notes.push(format!("{}: {why}", table.name()));
+/// That a call refused, which row may be the cause, and where the list is, or why there is none.
+fn refusal(job: &Rescore, table: &Table, psms: &Psms, refused: Refused, written: Result<(), Problem>) -> Problem {
+    let mut lines = vec![format!("{}: {refused}", table.name())];
+    lines.extend(not_finite(&psms.rows, job.tolerance).map(|why| format!("{}: {why}", table.name())));
+    match written {
+        Ok(()) => {
+            lines.push(format!("{}: written with every fresh column empty", job.output.display()));
+            Problem::Refused(lines)
+        }
+        Err(problem) => problem.after(lines),
     }
-    notes.push(format!("{}: written with every fresh column empty", job.output.display()));
-    Problem::Refused(format!("{}: {refused}", table.name()), notes)
 }
 
 /// The first row whose mass error or another feature is not finite, as score_psms looks for one after a fit that failed.
