@@ -1,20 +1,20 @@
--- Demand 3 is proved from two laws of `counting`: exactly one line is right, and a row's q-value is at most one in k exactly up to that line. The rest
--- takes the calls' definitions apart where they accept. Assumes nothing.
+-- Demand 3 is proved from two laws of `counting`: exactly one line is right, and a row's q-value is at most one in k exactly up to that line. What the
+-- line check answers is `line_check`'s; the rest takes the calls' definitions apart where they accept. Assumes nothing.
 use mathlib.Core.Path.{_≡_, refl, sym, ap, ap₂, _∙_, subst}
-use mathlib.Core.Logic.{_⊎_, inl, inr}
+use mathlib.Core.Logic.{inl, inr}
 use mathlib.Core.List.{List, [], _∷_, map}
 use mathlib.Core.Bool.{Bool, true, false, cond, _&&_}
 use Prim.Native.Nat.{ℕ, zero, suc, _≤_, _<_, max}
 use native.Mathlib.Nat.{zero-lt-suc, zero-add}
 use native.Mathlib.Numerals.{add-one}
 use native.Mathlib.Omega.{arith}
-use borrow.Author.Tests.{le-leb, eq-eqb, ne-eqb, leb-true, eqb-true}
+use borrow.Author.Tests.{leb-true, eqb-true}
 use lib.Dec.{leb, eqb, leb·zero, leb·suc-suc, leb·suc-zero}
 use lib.IntN.{ℤ}
 use lib.ListN.{length, getD, take, length-map}
 use lib.Ieee.{Float, nan, binary32, le}
 use Rattle.folds.specs.Columns.{filled, tabulated}
-use Rattle.folds.proofs.Tests.{lt-or-ge, both}
+use Rattle.folds.proofs.Tests.{both}
 use Rattle.folds.proofs.Columns.{getD-tabulated}
 use Rattle.columns.specs.Refusals.{longest}
 use Rattle.columns.specs.declared.Counted.{Counted}
@@ -26,11 +26,12 @@ use Rattle.floats.proofs.Ratio.{sharp-100, sharp-20}
 use Rattle.counting.specs.Labels.{isDecoy, targets}
 use Rattle.counting.specs.Lines.{qualifies, RightLine, rightLine}
 use Rattle.counting.specs.QValues.{qValues, atMost, targetsAtMost}
-use Rattle.counting.proofs.Lines.{last-within, last-own, last-later, right-line, right-line-only}
+use Rattle.counting.proofs.Lines.{last-within, right-line, right-line-only}
 use Rattle.counting.proofs.QValues.{q-length, q-at-most, count-is-line}
 use Rattle.qvalue.specs.Spectrum.{spectrumAnswer, spectrumColumn}
 use Rattle.line_check.specs.Check.{perOf, countsAt, lineAnswer}
-use Rattle.line_check.specs.declared.Line.the-variants.{Right, Wrong}
+use Rattle.line_check.specs.declared.Line.the-variants.{Wrong}
+use Rattle.line_check.proofs.Check.{wrong-row, right-answered, wrong-answered}
 use Rattle.precursor.specs.Precursors.{rankedRows, asRanked, rankOf, precursorQ, asked, accepts, precursorAnswer, precursorColumn}
 use Rattle.precursor.proofs.Places.{has-row}
 use Rattle.precursor.proofs.Joined.{length-as-ranked}
@@ -46,53 +47,18 @@ one rate labels = record {
   only = λ other h r. right-line-only rate labels other r h;
 }
 
--- an accepted check compares the line with the right one
-check-is : (rate : ℕ) (labels : List ℤ) (line : ℕ) → length labels ≤ longest → line ≤ length labels
-    → lineAnswer rate labels line
-    ≡ cond (eqb line (rightLine rate labels)) (Right (countsAt labels line)) (Wrong (countsAt labels (max line (rightLine rate labels))))
-unfolding lineAnswer
-check-is rate labels line s l = rw (le-leb (length labels) longest s, le-leb line (length labels) l)
-
-right : (rate : ℕ) (labels : List ℤ) (line : ℕ) → length labels ≤ longest → line ≤ length labels
-    → RightLine rate labels line → lineAnswer rate labels line ≡ Right (countsAt labels line)
-right rate labels line s l r =
-    check-is rate labels line s l
-    ∙ ap (λ (b : Bool). cond b (Right (countsAt labels line)) (Wrong (countsAt labels (max line (rightLine rate labels)))))
-    (eq-eqb line (rightLine rate labels) (right-line-only rate labels line r l))
-
 instead : (rate : ℕ) (labels : List ℤ) (line : ℕ) → Instead rate labels line (max line (rightLine rate labels))
-instead rate labels line =
-    let r = rightLine rate labels in
-    record {
-      none-after = λ later h l. last-later (qualifies rate labels) (length labels) later (omega arith) l;
-      which = elim (lt-or-ge line r) [
-        | inl h ↦
-            let m : max line r ≡ r = omega arith in
-            inr (
-              omega arith,
-              subst (λ (n : ℕ). n ≤ length labels) (sym m) (last-within (qualifies rate labels) (length labels)),
-              subst (λ (n : ℕ). qualifies rate labels n ≡ true) (sym m) (own h (last-own (qualifies rate labels) (length labels))),
-            )
-        | inr h ↦ inl (omega arith)
-      ];
-    }
-  where
-    own : line < rightLine rate labels → (rightLine rate labels ≡ 0) ⊎ (qualifies rate labels (rightLine rate labels) ≡ true) → qualifies rate labels (rightLine rate labels) ≡ true
-    own h (inl e) = absurd (none h e)
-      where
-        none : line < rightLine rate labels → rightLine rate labels ≡ 0 → ⊥
-        none p q = omega arith
-    own h (inr e) = e
+instead rate labels line = record {
+  none-after = λ later h l. right-line rate labels .none-later later (omega arith) l;
+  which = elim (wrong-row rate labels line) [
+    | inl w ↦ inr (w .0, omega (arith, w .0, last-within (qualifies rate labels) (length labels)), w .1)
+    | inr w ↦ inl (w .0)
+  ];
+}
 
 wrong : (rate : ℕ) (labels : List ℤ) (line : ℕ) → length labels ≤ longest → line ≤ length labels → (RightLine rate labels line → ⊥)
     → (row : ℕ) × Instead rate labels line row × (lineAnswer rate labels line ≡ Wrong (countsAt labels row))
-wrong rate labels line s l n = (
-  max line (rightLine rate labels),
-  instead rate labels line,
-  check-is rate labels line s l
-      ∙ ap (λ (b : Bool). cond b (Right (countsAt labels line)) (Wrong (countsAt labels (max line (rightLine rate labels)))))
-      (ne-eqb line (rightLine rate labels) (λ (e : line ≡ rightLine rate labels). n (subst (RightLine rate labels) (sym e) (right-line rate labels)))),
-)
+wrong rate labels line s l n = (max line (rightLine rate labels), instead rate labels line, wrong-answered rate labels line s l n)
 
 -- ---- where a counting call accepts
 
@@ -145,7 +111,7 @@ targets-up c (l ∷ ls) (q ∷ qs) (suc line) e g =
     rw (g 0 (zero-lt-suc (length ls)), leb·suc-suc, leb·zero, targets-up c ls qs line (omega (arith, e)) (λ (i : ℕ) (h : i < length ls). g (suc i) (omega arith) ∙ leb·suc-suc (suc i) line))
 
 module _ (labels : List ℤ) (scores : List Float) (keys spare : ℕ) (q : List Float) (count line : ℕ)
-    (a : precursorAnswer labels scores keys spare (length q) ≡ Passing count) (l : line ≤ length labels) (r : RightLine 20 (asRanked labels scores) line) where
+    (a : precursorAnswer labels scores keys spare (length q) ≡ Passing count) (l : line ≤ length (asRanked labels scores)) (r : RightLine 20 (asRanked labels scores) line) where
   let-in : (leb (length labels) longest && leb (length scores) longest ≡ true)
       × (eqb (length scores) (length labels) && (eqb keys (length labels) && (eqb spare (length labels) && eqb (length q) (length labels))) ≡ true)
       × (count ≡ targetsAtMost (oneIn 20) (asRanked labels scores) (qValues (asRanked labels scores)))
@@ -165,7 +131,7 @@ module _ (labels : List ℤ) (scores : List Float) (keys spare : ℕ) (q : List 
   few = subst (λ (n : ℕ). n ≤ longest) (sym as-long) (leb-true (length labels) longest (both _ _ (let-in .0) .0))
 
   right-is : rightLine 20 (asRanked labels scores) ≡ line
-  right-is = sym (right-line-only 20 (asRanked labels scores) line r (subst (λ (n : ℕ). line ≤ n) (sym as-long) l))
+  right-is = sym (right-line-only 20 (asRanked labels scores) line r l)
 
   ranked-rows : (i : ℕ) → i < length (asRanked labels scores) → le (getD (qValues (asRanked labels scores)) i nan) (oneIn 20) ≡ leb (suc i) line
   ranked-rows i h = q-at-most (asRanked labels scores) few 20 (omega arith) sharp-20 i h ∙ ap₂ leb (add-one i) right-is
@@ -192,7 +158,7 @@ module _ (labels : List ℤ) (scores : List Float) (keys spare : ℕ) (q : List 
 pub demand-3 : Demand3
 demand-3 = record {
   one-right = λ rate labels. one (perOf rate) labels;
-  check-right = λ rate. right (perOf rate);
+  check-right = λ rate. right-answered (perOf rate);
   check-wrong = λ rate. wrong (perOf rate);
   spectrum-count = spectrum-count;
   spectrum-rows = spectrum-rows;

@@ -1,8 +1,8 @@
 -- The table of known points, by computation, and by the points of `gauss`, `kde`, `competition` and `fdr`. Assumes nothing.
-use mathlib.Core.Path.{refl}
+use mathlib.Core.Path.{_≡_, refl}
 use lib.Ieee.{nan, ofBits, ofInt, div, lt, le, round}
 use Rattle.folds.specs.Columns.{tabulated}
-use Rattle.floats.specs.Least.{lesser}
+use Rattle.floats.specs.Least.{lesser, greater}
 use Rattle.floats.specs.Ratio.{oneIn}
 use Rattle.counting.specs.Labels.{decoys, targets}
 use Rattle.counting.specs.Lines.{lastRow}
@@ -12,9 +12,14 @@ use Rattle.line_check.specs.Check.{lineAnswer}
 use Rattle.gauss.proofs.Known as systems
 use Rattle.kde.proofs.Points as errors
 use Rattle.competition.proofs.Batches as ties
-use Rattle.fdr.specs.declared.Names.the-variants.{Two}
 use Rattle.fdr.proofs.Points as competitions
-use Rattle.agreement.specs.KnownPoints.{KnownPoints}
+use Rattle.competition.specs.Tables.{freshTable, freshAnswer, addedTable, addAnswer, added, allAllowed}
+use Rattle.agreement.specs.KnownPoints.{twoSlots, KnownPoints}
+
+-- the table that the rows leave
+two-slots-are : twoSlots ≡ competitions.twoTargets
+unfolding freshTable freshAnswer addedTable addAnswer added allAllowed greater lt ofBits
+two-slots-are = refl
 
 pub known-points : KnownPoints
 unfolding spectrumAnswer spectrumColumn lineAnswer lastRow qValues ratios ratioAt lows lowest atMost tabulated lesser oneIn decoys targets ofBits ofInt div lt le round
@@ -23,6 +28,7 @@ known-points = record {
   no-rows-line = refl;
   one-decoy = refl;
   three-rows = refl;
+  zero-and-seven = refl;
   twenty = refl;
   nineteen = refl;
   minus-small = systems.minus-small;
@@ -32,6 +38,6 @@ known-points = record {
   under = errors.under;
   ppm = errors.ppm-10;
   equal-sides = ties.equal-sides;
-  two-slots-count = competitions.two-targets-count;
-  two-slots = competitions.two-targets-q Two nan nan;
+  two-slots-count = rw two-slots-are competitions.two-targets-count;
+  two-slots = λ names. rw two-slots-are (competitions.two-targets-q names nan nan);
 }

@@ -50,9 +50,9 @@ pub record Demand3 : Type 0 where
       → (i : ℕ) → i < length labels → le (getD (spectrumColumn labels q) i nan) (oneIn 100) ≡ leb (suc i) line
   -- the precursor call, for the line of the list as ranked that is right at one in 20
   pub precursor-count : (labels : List ℤ) (scores : List Float) (keys spare : ℕ) (q : List Float) (count line : ℕ)
-      → precursorAnswer labels scores keys spare (length q) ≡ Passing count → line ≤ length labels → RightLine 20 (asRanked labels scores) line
-      → count ≡ targets (take line (asRanked labels scores))
+      → precursorAnswer labels scores keys spare (length q) ≡ Passing count → line ≤ length (asRanked labels scores)
+      → RightLine 20 (asRanked labels scores) line → count ≡ targets (take line (asRanked labels scores))
   pub precursor-rows : (labels : List ℤ) (scores : List Float) (keys spare : ℕ) (q : List Float) (count line : ℕ)
-      → precursorAnswer labels scores keys spare (length q) ≡ Passing count → line ≤ length labels → RightLine 20 (asRanked labels scores) line
-      → (place : ℕ) → place < length labels
+      → precursorAnswer labels scores keys spare (length q) ≡ Passing count → line ≤ length (asRanked labels scores)
+      → RightLine 20 (asRanked labels scores) line → (place : ℕ) → place < length labels
       → le (getD (precursorColumn labels scores keys spare q) place nan) (oneIn 20) ≡ leb (suc (rankOf (rankedRows scores) place)) line

@@ -12,7 +12,7 @@ use Rattle.columns.specs.declared.Refusal.the-variants.{Unsolved}
 use Rattle.qvalue.specs.Spectrum.{spectrumAnswer, spectrumColumn}
 use Rattle.line_check.specs.Check.{lineAnswer}
 use Rattle.line_check.specs.declared.Counts.{Counts}
-use Rattle.line_check.specs.declared.Line.the-variants.{Right}
+use Rattle.line_check.specs.declared.Line.the-variants.{Right, Wrong}
 use Rattle.gauss.specs.Elimination.{Row, Table, entry, small, nought}
 use Rattle.gauss.specs.Solutions.{solution, answered, blank}
 use Rattle.kde.specs.declared.Tolerance.the-variants.{Ppm}
@@ -20,9 +20,9 @@ use Rattle.kde.specs.declared.BinCount.the-variants.{Bins}
 use Rattle.kde.specs.Bins.{estimator}
 use Rattle.kde.specs.Estimate.{posteriorError}
 use Rattle.kde.specs.Tolerances.{binCountAnswer}
-use Rattle.competition.specs.Tables.{tableOf, lowest, Table as CompetitionTable}
+use Rattle.competition.specs.Tables.{tableOf, freshTable, addedTable, Table as CompetitionTable}
 use Rattle.competition.specs.Winners.{slotSeen, decoyFlag}
-use Rattle.fdr.specs.declared.Names.the-variants.{Two}
+use Rattle.fdr.specs.declared.Names.{Names}
 use Rattle.fdr.specs.QValues.{assignAnswer, assignColumn}
 
 abbrev pub target : ℤ
@@ -42,13 +42,15 @@ thenDecoy n = replicate n target ++ (decoy ∷ [])
 abbrev pub counts : ℕ → ℕ → ℕ → Counts
 counts row decoys targets = record { row = row; «decoys_plus_one» = decoys; targets = targets }
 
--- 0.5 and 0.25
-abbrev pub halves : List Float
-halves = fin false 1 (negsuc 0) ∷ fin false 1 (negsuc 1) ∷ []
+-- the bins 0.5 and 0.25
+abbrev pub twoBins : List Float
+twoBins = fin false 1 (negsuc 0) ∷ fin false 1 (negsuc 1) ∷ []
 
--- two slots whose forward sides are seen, with 2.0 and 1.0
+-- two slots, after a target of each was added, with 2.0 and 1.0; what the columns held before it was made fresh does not matter
 abbrev pub twoSlots : CompetitionTable
-twoSlots = tableOf (fin false 1 (pos 1) ∷ whole 1 ∷ []) (lowest ∷ lowest ∷ []) (1 ∷ 1 ∷ []) (0 ∷ 0 ∷ [])
+twoSlots =
+    let came = tableOf (nan ∷ nan ∷ []) (nan ∷ nan ∷ []) (9 ∷ 9 ∷ []) (9 ∷ 9 ∷ []) in
+    addedTable (0 ∷ 1 ∷ []) (target ∷ target ∷ []) (fin false 1 (pos 1) ∷ whole 1 ∷ []) (freshTable came)
 
 pub record KnownPoints : Type 0 where
   -- "no rows: count 0, line 0 right"
@@ -56,8 +58,9 @@ pub record KnownPoints : Type 0 where
   pub no-rows-line : lineAnswer 100 [] 0 ≡ Right (counts 0 1 0)
   -- "one decoy: q 1.0"
   pub one-decoy : spectrumColumn (decoy ∷ []) (nan ∷ []) ≡ whole 1 ∷ []
-  -- "target, decoy, target: q 1, 1, 1"
+  -- "target, decoy, target: q 1, 1, 1. Labels 0 and 7 are targets."
   pub three-rows : spectrumColumn (target ∷ decoy ∷ target ∷ []) (replicate 3 nan) ≡ replicate 3 (whole 1)
+  pub zero-and-seven : lineAnswer 100 (pos 0 ∷ pos 7 ∷ []) 2 ≡ Wrong (counts 2 1 2)
   -- "20 targets, one decoy at one in 20: line 20, 20 targets"; "19 targets: line 0"
   pub twenty : lineAnswer 20 (thenDecoy 20) 20 ≡ Right (counts 20 1 20)
   pub nineteen : lineAnswer 20 (thenDecoy 19) 0 ≡ Right (counts 0 1 0)
@@ -67,15 +70,16 @@ pub record KnownPoints : Type 0 where
   -- "system [NaN]: 7"
   pub not-a-number : (left : Table) (right : Row) → entry left 0 0 ≡ nan → solution left right 1 ≡ blank Unsolved
   -- "bins 0.5, 0.25, least 0, step 1: score 0.5 gives 0.375; 2 gives 0.25; −3 gives 1.25"
-  pub between : posteriorError (estimator (whole 0) (whole 1)) halves (fin false 1 (negsuc 0)) ≡ fin false 3 (negsuc 2)
-  pub past : posteriorError (estimator (whole 0) (whole 1)) halves (fin false 1 (pos 1)) ≡ fin false 1 (negsuc 1)
-  pub under : posteriorError (estimator (whole 0) (whole 1)) halves (fin true 3 (pos 0)) ≡ fin false 5 (negsuc 1)
+  pub between : posteriorError (estimator (whole 0) (whole 1)) twoBins (fin false 1 (negsuc 0)) ≡ fin false 3 (negsuc 2)
+  pub past : posteriorError (estimator (whole 0) (whole 1)) twoBins (fin false 1 (pos 1)) ≡ fin false 1 (negsuc 1)
+  pub under : posteriorError (estimator (whole 0) (whole 1)) twoBins (fin true 3 (pos 0)) ≡ fin false 5 (negsuc 1)
   -- "ppm −10 to 10: 100 bins"
   pub ppm : binCountAnswer (Ppm (fin true 5 (pos 1)) (fin false 5 (pos 1))) ≡ Bins 100
   -- "equal forward and reverse: decoy wins", in every table, for a slot that is seen
   pub equal-sides : (t : CompetitionTable) (slot : ℕ) → slotSeen t slot ≡ true → T (eq (getD (t .forward) slot nan) (getD (t .reverse) slot nan))
       → decoyFlag t slot ≡ 1
   -- "two target slots scored 2.0 and 1.0, bins 0.5, 0.25, least 1, step 1: q 0.875 for both, count 0"
-  pub two-slots-count : assignAnswer (estimator (whole 1) (whole 1)) halves twoSlots (0 ∷ 1 ∷ []) 2 4 4 2 ≡ Passing 0
-  pub two-slots : assignColumn Two (estimator (whole 1) (whole 1)) halves twoSlots (0 ∷ 1 ∷ []) (target ∷ target ∷ []) 4 4 (nan ∷ nan ∷ [])
+  pub two-slots-count : assignAnswer (estimator (whole 1) (whole 1)) twoBins twoSlots (0 ∷ 1 ∷ []) 2 4 4 2 ≡ Passing 0
+  pub two-slots : (names : Names)
+      → assignColumn names (estimator (whole 1) (whole 1)) twoBins twoSlots (0 ∷ 1 ∷ []) (target ∷ target ∷ []) 4 4 (nan ∷ nan ∷ [])
       ≡ replicate 2 (fin false 7 (negsuc 2))

@@ -35,7 +35,7 @@ tableOf forward reverse forwardSeen reverseSeen =
 abbrev pub isSeen : ℕ → Bool
 isSeen mark = not (eqb mark 0)
 
--- "Is every list at most 16,777,215 long?" and "Do all lent columns have the stated length (… one per entry)?", of a table
+-- "Is every list at most 16,777,215 long?" and "Do all lent columns have the stated length (… one per entry …)?", of a table
 abbrev pub tableShort : Table → Bool
 tableShort t =
     leb (length (t .forward)) longest && (leb (length (t .reverse)) longest

@@ -11,6 +11,7 @@ use lib.Ieee.{nan, le}
 use Rattle.columns.specs.declared.Refusal.{Refusal}
 use Rattle.columns.specs.declared.Refusal.the-variants.{OutOfRange, Unsolved}
 use Rattle.folds.specs.Walks.{steps, across, seek}
+use Rattle.folds.proofs.Walks.{across-same}
 use Rattle.gauss.specs.declared.Solved.the-variants.{Answer, Refused}
 use Rattle.gauss.specs.declared.Solution.{Solution}
 use Rattle.gauss.specs.declared.Pivot.{Pivot}
@@ -68,29 +69,21 @@ sound left right size = one-of (Sound size) (leb 1 size && leb size 20) first (b
     first : Sound size (firstAnswer size (joined left right size))
     first = one-of (Sound size) (ltb n tries) (attempt-sound size n (joined left right size)) (blank-sound size Unsolved)
 
--- ---- "Entries past the size are not read."
-
--- walks whose steps agree in the range
-steps-same : {S : Type 0} (f g : ℕ → S → S) (a k : ℕ) → ((i : ℕ) → i < a + k → (s : S) → f i s ≡ g i s) → (s : S) → steps f a k s ≡ steps g a k s
-unfolding steps
-steps-same f g a zero h s = refl
-steps-same {S} f g a (suc k) h s =
-    steps-same f g (suc a) k (λ (i : ℕ) (l : i < suc a + k). h i (omega arith)) (f a s) ∙ ap (steps g (suc a) k) (h a (omega arith) s)
+-- ---- "Entries past the size are not read"
 
 pub unread : (left left′ : Table) (right right′ : Row) (size : ℕ) → ((i j : ℕ) → i < size → j < size → entry left i j ≡ entry left′ i j)
     → ((i : ℕ) → i < size → getD right i nan ≡ getD right′ i nan) → solution left right size ≡ solution left′ right′ size
 unfolding solution joined
 unread left left′ right right′ size l r = ap (λ (m : Table). cond (leb 1 size && leb size 20) (firstAnswer size m) (blank OutOfRange)) same
   where
-    turn : (i : ℕ) → i < 0 + (size - 0) → (m : Table) → joinRow left right size i m ≡ joinRow left′ right′ size i m
+    turn : (i : ℕ) → i < size → (m : Table) → joinRow left right size i m ≡ joinRow left′ right′ size i m
     turn i h m =
         ap (λ (x : Table). put i 20 (getD right i nan) x)
-        (steps-same (λ j. put i j (entry left i j)) (λ j. put i j (entry left′ i j)) 0 (size - 0)
-        (λ (j : ℕ) (g : j < 0 + (size - 0)) (t : Table). ap (λ x. put i j x t) (l i j (omega arith) (omega arith))) m)
-        ∙ ap (λ x. put i 20 x (across (λ j. put i j (entry left′ i j)) 0 size m)) (r i (omega arith))
+        (across-same 0 size m (λ j a g t. ap (λ x. put i j x t) (l i j h g)))
+        ∙ ap (λ x. put i 20 x (across (λ j. put i j (entry left′ i j)) 0 size m)) (r i h)
 
     same : joined left right size ≡ joined left′ right′ size
-    same = steps-same (joinRow left right size) (joinRow left′ right′ size) 0 (size - 0) turn (replicate 20 (replicate 21 nought))
+    same = across-same 0 size (replicate 20 (replicate 21 nought)) (λ i a u m. turn i u m)
 
 -- ---- "If nothing in the column from row h down is ≥ f64::MIN (only NaN or −infinity), row 0 is picked."
 

@@ -24,7 +24,7 @@ solvedNumber (Refused reason) = numberOf reason
 abbrev pub answered : Row → Solution
 answered v = record { answer = Answer; values = v }
 
--- "Floats returned by value are then NaN."
+-- "Floats returned by value are then NaN"
 abbrev pub blank : Refusal → Solution
 blank reason = record { answer = Refused reason; values = replicate 20 nan }
 

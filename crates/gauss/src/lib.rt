@@ -43,8 +43,8 @@ fn solve_inner(system: [[f64; 21]; 20], size: usize, eps: f64) -> Solution
     requires { ⌜ size ≤ 20 ⌝ }
     ensures { λ r. ⌜ r ≡ attempt size eps system ⌝ }
 {
-    let nonzero = fill_zero(system, size, eps);
-    let upper = echelon(nonzero, size);
+    let filled = fill_zero(system, size, eps);
+    let upper = echelon(filled, size);
     let ones = reduce(upper, size);
     let done = backfill(ones, size);
     if left_solved(&done, size) {
@@ -80,8 +80,8 @@ fn refused(reason: Refusal) -> Solution
     }
 }
 
-// The answer at the first eps of 1E-8, 1E-7, … that solves the system, while eps is at most 1; each try starts from the system itself. Refused
-// where the size is not 1 to 20, and where no eps solves it. Entries past the size are not read.
+// The answer at the first eps that solves the system: 1E-8, then ten times the last, rounded, while it is at most 1; each try starts from the
+// system itself. Refused where the size is not 1 to 20, and where no eps solves it. Entries past the size are not read.
 pub fn solve(left: [[f64; 20]; 20], right: [f64; 20], size: usize) -> Solution
     ensures { λ r. ⌜ r ≡ solution left right size ⌝ }
 {
@@ -129,7 +129,7 @@ fn fill_zero(mut m: [[f64; 21]; 20], size: usize, eps: f64) -> [[f64; 21]; 20]
     m
 }
 
-// Is the left side an identity matrix, but for zeros on the diagonal?
+// Is each diagonal entry 1 or 0, and no other above 1E-8?
 fn left_solved(m: &[[f64; 21]; 20], size: usize) -> bool
     requires { ⌜ size ≤ 20 ⌝ }
     ensures { λ r. ⌜ r ≡ leftSolved size (now (m .entry)) ⌝ }

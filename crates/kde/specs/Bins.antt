@@ -47,7 +47,7 @@ greatestScore scores = folded greater (neg largest) scores
 abbrev pub estimator : Float → Float → Estimator
 estimator least step = record { «min_score» = least; «score_step» = step }
 
--- `bins` evenly spaced scores from the least on
+-- the least score, and the step between so many bins
 unfoldable pub estimatorOf : ℕ → List Float → Estimator
 unfolding folded
 estimatorOf bins scores =

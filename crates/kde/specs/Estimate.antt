@@ -30,7 +30,7 @@ factor e score bin = div binary64 (sub binary64 score (binScore e bin)) (e .«sc
 abbrev pub interpolated : Float → Float → Float → Float
 interpolated lower upper linear = add binary64 lower (mul binary64 (sub binary64 upper lower) linear)
 
--- between the bin at or below the score and the next one, both held to the last bin
+-- between the bin at or below the score, or the first, and the next one, both held to the last bin
 unfoldable pub posteriorError : Estimator → List Float → Float → Float
 unfolding stepsUp
 posteriorError e bins score =

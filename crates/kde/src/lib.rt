@@ -300,7 +300,7 @@ pub fn slot_posterior_bins(
     }
 }
 
-// The bin at or below a score. The number of steps is held to the last bin before it is cut to a whole number, so that no score
+// The bin at or below a score, or the first. The number of steps is held to the last bin before it is cut to a whole number, so that no score
 // takes a branch; the Rust's floor changes nothing before such a cut.
 fn lower_bin(estimator: Estimator, last: usize, score: f64) -> usize
     requires { ⌜ last < 65536 ⌝ }
@@ -386,7 +386,7 @@ pub enum Tolerance {
     Pct(f32, f32),
 }
 
-// The bins from lo to hi, of which there are at least so many. The Rust's abs() is left out: the number is above zero.
+// The number of bins from lo to hi, and at least `least`. The Rust's abs() is left out: the number is above zero.
 fn bins_across(lo: f32, hi: f32, least: f32) -> BinCount
     requires { ⌜ T (lt (fin false 0 (pos 0)) least) ⌝ }
     ensures { λ r. ⌜ r ≡ countAnswer (binsAcross lo hi least) ⌝ }

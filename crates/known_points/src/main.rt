@@ -388,7 +388,7 @@ fn two_slots() {
     text(b"\n");
 }
 
-// "Is the line at most the list's length?" and "Do all lent columns have the stated length?"
+// "Is the line at most the list's length?" and "Do all lent columns have the stated length …?"
 fn refusals() {
     text(b"line 2 of one row:");
     told_line(line_check::check_line(&[1i32], 2, Rate::OneIn100));

@@ -28,7 +28,7 @@ pub enum Line {
     Refused(Refusal),
 }
 
-// How many targets each decoy, and the one more, must have.
+// How many targets a row needs for each of its decoys plus one.
 fn per_decoy(rate: Rate) -> usize
     ensures { λ r. ⌜ r ≡ perOf rate ⌝ }
 {

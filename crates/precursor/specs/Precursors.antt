@@ -38,7 +38,7 @@ unfoldable pub precursorQ : List ℤ → List Float → List Float
 precursorQ labels scores =
     tabulated (λ place. getD (qValues (asRanked labels scores)) (rankOf (rankedRows scores) place) nan) 0 (length labels)
 
--- "Is every list at most 16,777,215 long?" and "Do all lent columns have the stated length (… one per entry)?", of the two input columns, the
+-- "Is every list at most 16,777,215 long?" and "Do all lent columns have the stated length (… one per entry …)?", of the two input columns, the
 -- two working columns and the result
 unfoldable pub asked : ℕ → ℕ → ℕ → ℕ → ℕ → Counted → Counted
 asked labels scores keys spare q accepted =

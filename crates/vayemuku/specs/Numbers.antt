@@ -7,6 +7,7 @@ use lib.IntN.{ℤ, pos, negsuc}
 use lib.ListN.{length}
 use Rattle.folds.specs.Columns.{filled}
 use Rattle.columns.specs.Refusals.{longest, numberOf}
+use Rattle.columns.specs.declared.Refusal.the-variants.{TooLong, WrongLength}
 use Rattle.line_check.specs.declared.Line.{Line}
 use Rattle.line_check.specs.declared.Line.the-variants.{Right, Wrong, Refused}
 use Rattle.ranking.specs.Keys.{sorted}
@@ -26,7 +27,8 @@ signOf Less = negsuc 0
 signOf Equal = pos 0
 signOf Greater = pos 1
 
--- Document 01's number and values of a line's answer: 1 for right and 0 for wrong, with the three counts; after a refusal all are 0 but the number.
+-- A line's answer: document 01's number of a refusal, or 0; then, in the port's own numbers, 1 for right and 0 for wrong; and the three counts. After a
+-- refusal all are 0 but the number.
 abbrev pub numbersOf : Line → LineNumbers
 numbersOf (Right c) = record { number = 0; right = 1; row = c .row; «decoys_plus_one» = c .«decoys_plus_one»; targets = c .targets }
 numbersOf (Wrong c) = record { number = 0; right = 0; row = c .row; «decoys_plus_one» = c .«decoys_plus_one»; targets = c .targets }
@@ -34,7 +36,7 @@ numbersOf (Refused r) = record { number = numberOf r; right = 0; row = 0; «deco
 
 -- Questions 1 and 2 of the bare ranking: the number, and the keys afterwards.
 unfoldable pub keysNumber : ℕ → ℕ → ℕ
-keysNumber keys spare = cond (leb keys longest) (cond (eqb spare keys) 0 2) 1
+keysNumber keys spare = cond (leb keys longest) (cond (eqb spare keys) 0 (numberOf WrongLength)) (numberOf TooLong)
 
 unfoldable pub keysColumn : List ℕ → ℕ → List ℕ
 keysColumn keys spare = cond (leb (length keys) longest) (cond (eqb spare (length keys)) (sorted keys) (filled 0 keys)) (filled 0 keys)
