@@ -4,23 +4,21 @@ use mathlib.Core.Path.{_≡_, sym, ap, fun-ext, _∙_}
 use mathlib.Core.Logic.{inl, inr}
 use mathlib.Core.List.{List, map}
 use mathlib.Core.Bool.{true, false}
-use Prim.Native.Nat.{ℕ, zero, suc, _+_, _-_, _*_, _^_, _≤_, _<_}
-use native.Mathlib.Nat.{add-comm, zero-mul, mul-one, mul-pos}
+use Prim.Native.Nat.{ℕ, zero, suc, _+_, _-_, _^_, _≤_, _<_}
+use native.Mathlib.Nat.{zero-lt-suc, add-comm}
 use native.Mathlib.Numerals.{add-one}
 use native.Mathlib.Omega.{arith}
 use denote.Floats.{passes}
-use lib.Dec.{T, leb, leb→le, le→leb, ltb→lt, lt→ltb}
+use lib.Dec.{T, leb, leb→le, le→leb}
 use lib.IntN.{ℤ}
 use lib.ListN.{length, take, drop, getD, length-drop}
 use lib.Seq.{getD-drop}
-use lib.Ieee.{Float, nan, inf, fin, up, down, binary32, ofBits, round, lt, le}
-use lib.Ieee.Fits.{up-pos}
+use lib.Ieee.{Float, nan, binary32, ofBits, round, lt, le}
 use lib.Ieee.Bits.{is-true}
-use lib.Ieee.Positive.{positive}
 use Rattle.folds.proofs.Tests.{same-test}
 use Rattle.floats.specs.Ratio.{oneIn}
-use Rattle.floats.proofs.Order.{lt-of-le-of-lt}
-use Rattle.floats.proofs.Ratio.{Sharp, ratio-at-most, ratio-positive, ratio-none, ratio-mono}
+use Rattle.floats.proofs.Order.{lt-of-le-of-lt, lt-of-lt-of-le}
+use Rattle.floats.proofs.Ratio.{Sharp, ratio as one-rounding, ratio-at-most, ratio-none, ratio-mono}
 use Rattle.counting.specs.Labels.{isDecoy, decoys, targets}
 use Rattle.counting.specs.Lines.{qualifies, rightLine}
 use Rattle.counting.specs.QValues.{ratio, ratioAt, ratios, lowest, qValues, atMost}
@@ -65,16 +63,12 @@ q-at-most-one labels i h = rw (q-at labels i h) (lowest-most (drop i (ratios lab
 abbrev above-none : Float → Type 0
 above-none x = T (lt (ofBits binary32 0) x)
 
-positive-above : (x : Float) → T (positive x) → above-none x
-unfolding lt ofBits
-positive-above nan p = absurd p
-positive-above (inf s) p = absurd p
-positive-above (fin true m e) p = absurd p
-positive-above (fin false m e) p = lt→ltb (0 * down e) (m * up e * 1) (rw (zero-mul, mul-one) (mul-pos (ltb→lt 0 m p) (up-pos e)))
-
 ratio-above : (d t : ℕ) → 0 < d → d ≤ 2 ^ 24 → t ≤ 2 ^ 24 → above-none (ratio d t)
 ratio-above d zero p h k = rw (ratio-none d p h) (unfold lt ofBits in tt)
-ratio-above d (suc t) p h k = positive-above (ratio d (suc t)) (ratio-positive d (suc t) p h (omega arith) k)
+ratio-above d (suc t) p h k =
+    rw (one-rounding d (suc t) h (zero-lt-suc t) k)
+    (lt-of-lt-of-le (ofBits binary32 0) (round binary32 false 1 (2 ^ 24)) (round binary32 false d (suc t)) (unfold lt ofBits round in tt)
+    (ratio-mono 1 (2 ^ 24) d (suc t) (omega arith) (omega arith) (omega arith)))
 
 module _ (labels : List ℤ) (short : length labels ≤ 16777215) where
   pub q-above-none : (i : ℕ) → i < length labels → T (lt (ofBits binary32 0) (getD (qValues labels) i nan))

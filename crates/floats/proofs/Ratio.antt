@@ -7,16 +7,17 @@ use native.Mathlib.Nat.{mul-one, mul-comm, mul-assoc, mul-left-comm, mul-pos, ze
 use native.Mathlib.Omega.{arith}
 use borrow.Author.Tests.{leb-true, leb-false, lt-leb, ne-eqb}
 use lib.IntN.{pos}
-use lib.Dec.{T, leb, lit≤, ltb→lt, not-T}
-use lib.Ieee.{Float, nan, inf, fin, binary32, up, down, round, ofInt, ofBits, add, div, lt, le}
-use lib.Ieee.Bits.{is-true, is-false}
+use lib.Dec.{T, leb, lit≤, ltb→lt}
+use lib.Ieee.{Float, nan, inf, fin, binary32, round, ofInt, ofBits, add, div, lt, le}
+use lib.Ieee.Bits.{is-true}
 use lib.Ieee.Exact.{HasValue}
 use lib.Ieee.Back.{round-whole}
 use lib.Ieee.Order.{round-mono}
-use lib.Ieee.Positive.{positive, above, positive-of-value, above-of-le, between, le→cross, le-trans-positive}
+use lib.Ieee.Positive.{positive, positive-of-value}
+use Rattle.folds.proofs.Tests.{no-truth}
 use Rattle.floats.specs.Ratio.{oneIn}
 use Rattle.floats.proofs.Fractions.{div-at, add-at}
-use Rattle.floats.proofs.Order.{lt→le}
+use Rattle.floats.proofs.Order.{lt→not-le, le-trans, lt-of-le-of-lt}
 
 pub one-in-100 : oneIn 100 ≡ ofBits binary32 0x3C23D70A
 unfolding oneIn round ofBits
@@ -56,14 +57,6 @@ count-next n h =
 pub ratio-mono : (d t c u : ℕ) → 0 < t → 0 < u → d * u ≤ c * t → T (le (round binary32 false d t) (round binary32 false c u))
 ratio-mono = round-mono binary32
 
--- finite and above zero
-pub ratio-positive : (d t : ℕ) → 0 < d → d ≤ 2 ^ 24 → 0 < t → t ≤ 2 ^ 24
-    → T (positive (div binary32 (ofInt binary32 (pos d)) (ofInt binary32 (pos t))))
-ratio-positive d t p h q k =
-    rw (ratio d t h q k)
-    (between (round binary32 false 1 (2 ^ 24)) (round binary32 false d t) (round binary32 false (2 ^ 24) 1) (unfold round in tt) (unfold round in tt)
-    (round-mono binary32 1 (2 ^ 24) d t (lit≤ tt) q (omega arith)) (round-mono binary32 d t (2 ^ 24) 1 q (lit≤ tt) (omega arith)))
-
 -- ---- a ratio against one in k
 
 inf-lt : (y : Float) → lt (inf false) y ≡ false
@@ -73,27 +66,7 @@ inf-lt (inf t) = refl
 inf-lt (fin t n d) = refl
 
 inf-le : (x y : Float) → T (lt x y) → le (inf false) x ≡ false
-unfolding le
-inf-le nan y h = refl
-inf-le (inf true) y h = refl
-inf-le (inf false) y h = absurd (rw (inf-lt y) at h)
-inf-le (fin s m e) y h = refl
-
-above-lt : (x y : Float) → T (above x) → T (lt x y) → T (positive x)
-above-lt (inf false) y p h = absurd (rw (inf-lt y) at h)
-above-lt (fin false m e) y p h = p
-
-lt-clash : (x y : Float) → T (positive x) → T (positive y) → T (lt x y) → T (le y x) → ⊥
-unfolding lt
-lt-clash (fin false m e) (fin false n d) p q h k =
-    omega (arith, ltb→lt (m * up e * down d) (n * up d * down e) h, le→cross (fin false n d) (fin false m e) q p k)
-
--- a float z from y on is not at most an x below y
-beyond : (x y z : Float) → T (positive z) → T (lt x y) → T (le y z) → T (le z x) → ⊥
-beyond x y z r h k l =
-    let p : T (positive x) = above-lt x y (above-of-le z x r l) h in
-    let q : T (positive y) = between x y z p r (lt→le x y h) k in
-    lt-clash x y p q h (le-trans-positive y z x q r p k l)
+inf-le x y h = no-truth (le (inf false) x) (λ t. rw inf-lt at (lt-of-le-of-lt (inf false) x y t h))
 
 -- The next ratio above 1/k that two counts below 2^24 can have is 2^24 / (k·(2^24 − 1)) or more: the format tells it from 1/k.
 abbrev pub Sharp : ℕ → Type 0
@@ -130,7 +103,7 @@ ratio-at-most k K sharp d (suc t) p h q = go (leb (k * d) (suc t)) refl
         (rw (is, oneIn-is) (round-mono binary32 d (suc t) 1 k (zero-lt-suc t) K (omega (arith, leb-true (k * d) (suc t) e, mul-comm k d))))
     go false e =
         let w : d * (k * (2 ^ 24 - 1)) ≡ k * d * (2 ^ 24 - 1) = simp (mul-assoc, mul-left-comm) in
-        is-false (le r (oneIn k)) (not-T (le r (oneIn k))
-        (beyond (oneIn k) (round binary32 false (2 ^ 24) (k * (2 ^ 24 - 1))) r (ratio-positive d (suc t) p h (zero-lt-suc t) (omega arith)) sharp
+        let B = round binary32 false (2 ^ 24) (k * (2 ^ 24 - 1)) in
+        no-truth (le r (oneIn k)) (λ u. lt→not-le (oneIn k) B sharp (le-trans B r (oneIn k)
         (rw is (round-mono binary32 (2 ^ 24) (k * (2 ^ 24 - 1)) d (suc t) (mul-pos K (lit≤ tt)) (zero-lt-suc t)
-        (omega (arith, leb-false (k * d) (suc t) e))))))
+        (omega (arith, leb-false (k * d) (suc t) e)))) u))
