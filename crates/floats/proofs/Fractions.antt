@@ -1,18 +1,17 @@
 -- Operations and comparisons of finite floats by the fractions that they equal: where x is ±a/c and y is ±b/d, a comparison is
 -- that of a·d with b·c, and an operation is one rounding of the exact result, however the two floats are written.
 use mathlib.Core.Path.{_≡_, refl, sym, ap, ap₂, _∙_}
-use mathlib.Core.Bool.{Bool, true, false, not, _&&_, _||_, Bool·beq, cond, false≢true}
+use mathlib.Core.Bool.{Bool, true, false, not, _&&_, _||_, Bool·beq, cond}
 use Prim.Native.Nat.{ℕ, zero, suc, _+_, _-_, _*_, _^_, _≤_, _<_}
-use native.Mathlib.Nat.{add-comm, zero-add, add-zero, zero-mul, mul-comm, mul-assoc, mul-left-comm, add-mul, mul-pos, mul-mul-mul-comm}
+use native.Mathlib.Nat.{add-comm, zero-mul, mul-comm, mul-assoc, mul-left-comm, add-mul, mul-pos, mul-mul-mul-comm}
 use native.Mathlib.Nat.{le-trans, le-of-eq, not-le-of-lt, mul-right-comm, mul-sub, mul-le-mul-right, mul-lt-mul-of-pos-right, le-of-mul-le-mul-right, eq-of-mul-eq-mul-right, lt-irrefl, zero-lt-suc}
-use native.Mathlib.Omega.{arith}
-use borrow.Author.Tests.{ltb-true, ltb-false, eqb-true, eqb-false, lt-ltb, le-ltb, eq-eqb, ne-eqb, le-leb, lt-leb}
-use lib.Arith.{lt-of-le-ne}
+use borrow.Author.Tests.{ltb-true, ltb-false, eqb-true, eqb-false, lt-ltb, le-ltb, eq-eqb, ne-eqb}
 use lib.Dec.{T, leb, ltb, ltb→lt, eqb, eqb·suc-zero}
 use lib.Ieee.{Float, nan, inf, fin, Format, prec, emax, low, up, down, unlike, below, level, odd, units, round, sum, neg, add, sub, div, lt, eq, le}
 use lib.Ieee.Fits.{up-pos, down-pos, round-is}
 use lib.Ieee.Exact.{HasValue}
 use lib.Ieee.Scale.{round-same}
+use Rattle.floats.proofs.Order.{lt-or-eq, gain, loss, below-is, level-is}
 
 -- from one fraction to another of the same size
 pub rescale : (x : Float) (s : Bool) (a c b d : ℕ) → 0 < c → a * d ≡ b * c → HasValue x s a c → HasValue x s b d
@@ -47,37 +46,6 @@ level-scale : (s : Bool) (a : ℕ) (t : Bool) (b k : ℕ) → 0 < k → level s 
 level-scale s a t b k K =
     ap₂ (λ (p q : Bool). p && (Bool·beq s t || q)) (eqb-scale a b k K) (ap (eqb (a * k)) (sym (zero-mul k)) ∙ eqb-scale a 0 k K)
 
--- ---- ±a ≤ ±b as one comparison of naturals: each number is a difference, and the parts taken away go to the other side
-abbrev pub above : Bool → ℕ → ℕ
-above s a = cond s 0 a
-
-abbrev pub under : Bool → ℕ → ℕ
-under s a = cond s a 0
-
-le-test : (a b : ℕ) (q : Bool) → (q ≡ true → a ≡ b) → (a ≡ b → q ≡ true) → ltb a b || (q && true) ≡ leb a b
-le-test a b q f g = go (ltb a b) q refl f g
-  where
-    go : (p q : Bool) → ltb a b ≡ p → (q ≡ true → a ≡ b) → (a ≡ b → q ≡ true) → p || (q && true) ≡ leb a b
-    go true q e f g = sym (le-leb a b (omega (arith, ltb-true a b e)))
-    go false true e f g = sym (le-leb a b (omega (arith, f refl)))
-    go false false e f g = sym (lt-leb a b (lt-of-le-ne (ltb-false a b e) (λ (h : b ≡ a). false≢true (g (sym h)))))
-
-signed-le : (s : Bool) (a : ℕ) (t : Bool) (b : ℕ) → below s a t b || level s a t b ≡ leb (above s a + under t b) (above t b + under s a)
-signed-le false a false b = rw (add-zero, add-zero) (le-test a b (eqb a b) (eqb-true a b) (eq-eqb a b))
-signed-le false a true b = go (eqb a b) (eqb a 0) refl refl
-  where
-    go : (p q : Bool) → eqb a b ≡ p → eqb a 0 ≡ q → p && q ≡ leb (a + b) 0
-    go true true e k = sym (le-leb (a + b) 0 (omega (arith, eqb-true a b e, eqb-true a 0 k)))
-    go true false e k = sym (lt-leb (a + b) 0 (omega (arith, eqb-false a 0 k)))
-    go false q e k = sym (lt-leb (a + b) 0 (omega (arith, eqb-false a b e)))
-signed-le true a false b = go (ltb 0 (a + b)) refl ∙ sym (le-leb 0 (b + a) (omega arith))
-  where
-    go : (p : Bool) → ltb 0 (a + b) ≡ p → p || (eqb a b && eqb a 0) ≡ true
-    go true e = refl
-    go false e = rw (eq-eqb a b (omega (arith, ltb-false 0 (a + b) e)), eq-eqb a 0 (omega (arith, ltb-false 0 (a + b) e)))
-signed-le true a true b =
-    rw (zero-add, zero-add) (le-test b a (eqb a b) (λ (h : eqb a b ≡ true). sym (eqb-true a b h)) (λ (h : b ≡ a). eq-eqb a b (sym h)))
-
 -- x / e is a / c, so x · g over e · g is a · d over c · d
 cross : (x e a c g d : ℕ) → x * c ≡ a * e → x * g * (c * d) ≡ a * d * (e * g)
 cross x e a c g d h = mul-mul-mul-comm x g c d ∙ ap (λ (z : ℕ). z * (g * d)) h ∙ simp (mul-assoc, mul-comm, mul-left-comm)
@@ -105,10 +73,13 @@ module _ (s t : Bool) (a c b d : ℕ) (C : 0 < c) (D : 0 < d) where
       ∙ rw (v .0, w .0, cross (m * up e) (down e) a c (down g) d (v .1), cross′ (n * up g) (down g) b d (down e) c (w .1))
       (level-scale s (a * d) t (b * c) (down e * down g) (mul-pos (down-pos e) (down-pos g)))
 
+  -- each number is a difference of naturals, and the parts taken away go to the other side
   pub le-at : (x y : Float) → HasValue x s a c → HasValue y t b d
-      → le x y ≡ leb (above s (a * d) + under t (b * c)) (above t (b * c) + under s (a * d))
+      → le x y ≡ leb (gain s (a * d) + loss t (b * c)) (gain t (b * c) + loss s (a * d))
   unfolding le
-  le-at x y v w = ap₂ _||_ (lt-at x y v w) (eq-at x y v w) ∙ signed-le s (a * d) t (b * c)
+  le-at x y v w =
+      ap₂ _||_ (lt-at x y v w ∙ below-is s (a * d) t (b * c)) (eq-at x y v w ∙ level-is s (a * d) t (b * c))
+      ∙ lt-or-eq (gain s (a * d) + loss t (b * c)) (gain t (b * c) + loss s (a * d))
 
   quotient : (x e y g : ℕ) → x * c ≡ a * e → y * d ≡ b * g → x * g * (b * c) ≡ a * d * (y * e)
   quotient x e y g h k =
@@ -181,7 +152,7 @@ unfolding neg
 neg-value (fin u m e) s a c v = (ap not (v .0), v .1)
 
 turned : (s t : Bool) (x y : ℕ)
-    → leb (above (not s) x + under (not t) y) (above (not t) y + under (not s) x) ≡ leb (above t y + under s x) (above s x + under t y)
+    → leb (gain (not s) x + loss (not t) y) (gain (not t) y + loss (not s) x) ≡ leb (gain t y + loss s x) (gain s x + loss t y)
 turned true true x y = ap₂ leb (add-comm x 0) (add-comm y 0)
 turned true false x y = ap₂ leb (add-comm x y) refl
 turned false true x y = ap₂ leb refl (add-comm y x)

@@ -17,7 +17,7 @@ use Rattle.floats.specs.Least.{lesser, greater}
 
 -- ---- tests
 
-lt-or-eq : (a b : ℕ) → (ltb a b || eqb a b) ≡ leb a b
+pub lt-or-eq : (a b : ℕ) → (ltb a b || eqb a b) ≡ leb a b
 lt-or-eq a b =
     same-test (ltb a b || eqb a b) (leb a b)
     (λ t. elim (or-split (ltb a b) (eqb a b) t) [ inl u ↦ le→leb a b (omega (arith, ltb→lt a b u)) | inr u ↦ le→leb a b (omega (arith, eqb→eq a b u)) ])
@@ -43,21 +43,21 @@ both-zero a b =
 
 -- ---- ±a as the difference gain s a - loss s a
 
-abbrev gain : Bool → ℕ → ℕ
+abbrev pub gain : Bool → ℕ → ℕ
 gain true a = 0
 gain false a = a
 
-abbrev loss : Bool → ℕ → ℕ
+abbrev pub loss : Bool → ℕ → ℕ
 loss true a = a
 loss false a = 0
 
-below-is : (s : Bool) (a : ℕ) (t : Bool) (b : ℕ) → below s a t b ≡ ltb (gain s a + loss t b) (gain t b + loss s a)
+pub below-is : (s : Bool) (a : ℕ) (t : Bool) (b : ℕ) → below s a t b ≡ ltb (gain s a + loss t b) (gain t b + loss s a)
 below-is true a true b = simp zero-add
 below-is true a false b = rw (add-comm a b)
 below-is false a true b = sym (le-ltb (a + b) 0 (omega arith))
 below-is false a false b = simp add-zero
 
-level-is : (s : Bool) (a : ℕ) (t : Bool) (b : ℕ) → level s a t b ≡ eqb (gain s a + loss t b) (gain t b + loss s a)
+pub level-is : (s : Bool) (a : ℕ) (t : Bool) (b : ℕ) → level s a t b ≡ eqb (gain s a + loss t b) (gain t b + loss s a)
 level-is true a true b = and-true (eqb a b) ∙ same-eqb a b (0 + b) (0 + a) (λ e. omega arith) (λ e. omega arith)
 level-is true a false b = both-zero a b ∙ same-eqb (a + b) 0 0 (b + a) (λ e. omega arith) (λ e. omega arith)
 level-is false a true b = both-zero a b

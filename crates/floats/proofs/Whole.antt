@@ -21,7 +21,8 @@ use lib.Ieee.Back.{round-whole}
 use lib.Ieee.Scale.{round-same}
 use Rattle.floats.specs.Whole.{ceiling, floored, ceiled}
 use Rattle.floats.proofs.Values.{fitting, round-self}
-use Rattle.floats.proofs.Fractions.{above, under, lt-at, eq-at, le-at, add-at, neg-value, neg-le, neg-neg, neg-round}
+use Rattle.floats.proofs.Order.{gain, loss}
+use Rattle.floats.proofs.Fractions.{lt-at, eq-at, le-at, add-at, neg-value, neg-le, neg-neg, neg-round}
 
 ceiling-is : (k a d : ℕ) → a ≤ k * d → k * d < a + d → ceiling a d ≡ k
 ceiling-is k a d h l = div-eq-of-lt-le d (omega arith) (rw add-mul (omega (arith, one-mul d)))
@@ -260,12 +261,12 @@ floor-value f s m e t = go (ltb (m * up e) (2 ^ (prec f - 1) * down e)) refl
         let w = no-fraction f s m e t (ltb-false _ _ h) in
         rw (fixed f s m e (w .0) t (w .1), whole-is s (m * up e) (down e) (w .0) (down-pos e) (w .1)) (refl, mul-one (m * up e) ∙ sym (w .1))
 
-part-under : (s : Bool) (a d : ℕ) → 0 < d → above s (part s a d * d) + under s (a * 1) ≤ above s (a * 1) + under s (part s a d * d)
+part-under : (s : Bool) (a d : ℕ) → 0 < d → gain s (part s a d * d) + loss s (a * 1) ≤ gain s (a * 1) + loss s (part s a d * d)
 part-under true a d D = omega (arith, ceiling-above a d D)
 part-under false a d D = omega (arith, div-mul-le-self a d)
 
-part-greatest : (s t : Bool) (a d n : ℕ) → 0 < d → above t (n * d) + under s (a * 1) ≤ above s (a * 1) + under t (n * d)
-    → above t (n * 1) + under s (part s a d * 1) ≤ above s (part s a d * 1) + under t (n * 1)
+part-greatest : (s t : Bool) (a d n : ℕ) → 0 < d → gain t (n * d) + loss s (a * 1) ≤ gain s (a * 1) + loss t (n * d)
+    → gain t (n * 1) + loss s (part s a d * 1) ≤ gain s (part s a d * 1) + loss t (n * 1)
 part-greatest true true a d n D h = omega (arith, ceiling-least a d n D (omega arith))
 part-greatest true false a d n D h = omega (arith, ceiling-least a d 0 D (omega arith), le-mul-of-pos-right n D)
 part-greatest false true a d n D h = omega arith
