@@ -4,8 +4,8 @@ use mathlib.Core.Path.{_≡_, refl, sym, ap, ap₂, _∙_}
 use mathlib.Core.Logic.{_⊎_, inl, inr}
 use mathlib.Core.Bool.{Bool, true, false, not, _&&_, _||_, cond, and-true, and-false, or-false}
 use Prim.Native.Nat.{ℕ, zero, suc, _+_, _-_, _*_, _/_, _%_, _^_, _≤_, _<_, zero-le}
-use native.Mathlib.Nat.{one-mul, mod-lt, add-assoc, zero-mul, add-mul, suc-mul, mul-pos, mul-right-comm, mul-le-mul-right}
-use native.Mathlib.Nat.{mul-lt-mul-of-pos-right, eq-or-lt-of-le, eq-zero-or-pos, le-div-iff-mul-le, div-lt-iff-lt-mul}
+use native.Mathlib.Nat.{one-mul, mod-lt, add-assoc, zero-mul, add-mul, suc-mul, mul-right-comm, mul-le-mul-right}
+use native.Mathlib.Nat.{eq-or-lt-of-le, eq-zero-or-pos, le-div-iff-mul-le, div-lt-iff-lt-mul}
 use native.Mathlib.Omega.{arith}
 use borrow.Author.Tests.{lt-ltb, le-ltb}
 use lib.Dec.{T, T-not, ltb, ltb→lt, lt→ltb, nltb→le, eqb, lit<}
@@ -26,7 +26,7 @@ use Rattle.floats.specs.declared.Ordering.the-variants.{Less, Equal, Gre
 use denote.Floats.{passes}
 use Rattle.folds.proofs.Tests.{same-test, yes-or-no, or-split, or-l}
 use Rattle.floats.proofs.Signs.{absolute-fits, bits-sign, magnitude-lt}
-use Rattle.floats.proofs.Values.{unitsOf}
+use Rattle.floats.proofs.Values.{unitsOf, fitting, units-below}
 use Rattle.floats.proofs.Order.{both-zero, lt→le, eq→le, lt→not-le, lt-trans, lt-of-le-of-lt, lt-of-lt-of-le}
 
 -- ---- a strict order of all floats
@@ -178,21 +178,14 @@ fin-orders f m e n d p q =
     (λ t. lt→ltb x y (bits-strict f m e n d p q (ltb→lt a b t)))
     ∙ sym (rw (and-false, or-false))
 
--- what fits is below 2 ^ (emax + 1)
-fits-below : (f : Format) (s : Bool) (m : ℕ) (e : ℤ) → T (fits f (fin s m e)) → m * up e < 2 ^ suc (emax f) * down e
-unfolding fits
-fits-below f s zero e p = rw zero-mul (mul-pos (pow-pos (suc (emax f))) (down-pos e))
-fits-below f s (suc m) e p = ltb→lt (suc m * up e) (2 ^ suc (emax f) * down e) (search and-r)
-
 -- the bits of a finite value are below an infinity's, and those below the NaN's
 fin-below : (f : Format) (m : ℕ) (e : ℤ) → T (fits f (fin false m e)) → toBits f (fin false m e) < toBits f (inf false)
 unfolding toBits
 fin-below f m e p =
     let n = unitsOf f m e in
     let k = size n - prec f in
-    let h = mul-lt-mul-of-pos-right (fits-below f false m e p) (pow-pos (low f)) in
-    let b : n < 2 ^ (suc (emax f) + low f) = div-lt-iff-lt-mul (down-pos e) .1 (rw (pow-add, mul-right-comm (2 ^ suc (emax f))) h) in
-    let c : k + 2 ≤ ones f = omega (arith, size-le n (suc (emax f) + low f) b, two f, reach f) in
+    let b = units-below f m e (fitting f false m e p) in
+    let c : k + 2 ≤ ones f = omega (arith, size-le n (low f + suc (emax f)) b, two f, reach f) in
     omega (arith, add-mul k 2 (hid f), mul-le-mul-right (hid f) c, kept-below f n)
 
 inf-below : (f : Format) → toBits f (inf false) < toBits f nan
