@@ -3,7 +3,7 @@
 use mathlib.Core.Path.{_≡_, refl, sym, ap, ap₂, _∙_}
 use mathlib.Core.Bool.{Bool, true, false, not, _&&_, _||_, Bool·beq, cond}
 use Prim.Native.Nat.{ℕ, zero, suc, _+_, _-_, _*_, _^_, _≤_, _<_}
-use native.Mathlib.Nat.{add-comm, zero-mul, mul-comm, mul-assoc, mul-left-comm, add-mul, mul-pos, mul-mul-mul-comm}
+use native.Mathlib.Nat.{add-comm, add-zero, zero-mul, mul-comm, mul-assoc, mul-left-comm, add-mul, mul-pos, mul-mul-mul-comm}
 use native.Mathlib.Nat.{le-trans, le-of-eq, not-le-of-lt, mul-right-comm, mul-sub, mul-le-mul-right, mul-lt-mul-of-pos-right, le-of-mul-le-mul-right, eq-of-mul-eq-mul-right, lt-irrefl, zero-lt-suc}
 use borrow.Author.Tests.{ltb-true, ltb-false, eqb-true, eqb-false, lt-ltb, le-ltb, eq-eqb, ne-eqb}
 use lib.Dec.{T, leb, ltb, ltb→lt, eqb, eqb·suc-zero}
@@ -35,6 +35,9 @@ eqb-scale a b k K = go (eqb a b) refl
     go : (r : Bool) → eqb a b ≡ r → eqb (a * k) (b * k) ≡ r
     go true e = eq-eqb (a * k) (b * k) (ap (λ (z : ℕ). z * k) (eqb-true a b e))
     go false e = ne-eqb (a * k) (b * k) (λ (h : a * k ≡ b * k). eqb-false a b e (eq-of-mul-eq-mul-right k K a b h))
+
+leb-scale : (a b k : ℕ) → 0 < k → leb (a * k) (b * k) ≡ leb a b
+leb-scale a b k K = sym (lt-or-eq (a * k) (b * k)) ∙ ap₂ _||_ (ltb-scale a b k K) (eqb-scale a b k K) ∙ lt-or-eq a b
 
 below-scale : (s : Bool) (a : ℕ) (t : Bool) (b k : ℕ) → 0 < k → below s (a * k) t (b * k) ≡ below s a t b
 below-scale false a false b k K = ltb-scale a b k K
@@ -104,6 +107,12 @@ add-at f (fin s' m e) (fin t' n g) s a c b d C D v w =
     (rw (add-mul, add-mul, cross (m * up e) (down e) a c (down g) d (v .1), cross′ (n * up g) (down g) b d (down e) c (w .1))))
 
 -- ---- over one denominator, of values that are not negative
+
+pub lt-values : (x y : Float) (a b c : ℕ) → 0 < c → HasValue x false a c → HasValue y false b c → lt x y ≡ ltb a b
+lt-values x y a b c C v w = lt-at false false a c b c C C x y v w ∙ ltb-scale a b c C
+
+pub le-values : (x y : Float) (a b c : ℕ) → 0 < c → HasValue x false a c → HasValue y false b c → le x y ≡ leb a b
+le-values x y a b c C v w = le-at false false a c b c C C x y v w ∙ simp add-zero (leb-scale a b c C)
 
 pub add-values : (f : Format) (x y : Float) (a b c : ℕ) → 0 < c → HasValue x false a c → HasValue y false b c → add f x y ≡ round f false (a + b) c
 add-values f x y a b c C v w =

@@ -1,18 +1,17 @@
 -- What `narrow` works out, as floats: below the end of f32 the sum of the magnitude and the power of two, less that power, is the
 -- magnitude converted; from there on an infinity is; and the sign goes on last. Assumes nothing.
 use mathlib.Core.Path.{_≡_, refl, sym, ap, _∙_, subst}
-use mathlib.Core.Logic.{_⊎_, inl, inr}
+use mathlib.Core.Logic.{inl, inr}
 use Prim.Native.Nat.{ℕ, zero, suc, _+_, _-_, _*_, _/_, _%_, _^_, _≤_, _<_, max, compare}
-use native.Mathlib.Nat.{le-trans, le-of-eq, le-of-lt, lt-of-lt-of-le, lt-of-le-of-lt, mul-one, mul-right-comm, mul-le-mul-left, mul-le-mul-right, mul-lt-mul-of-pos-left, mul-lt-mul-of-pos-right, le-of-mul-le-mul-right, lt-of-mul-lt-mul-right}
+use native.Mathlib.Nat.{max-eq-left, max-eq-right, le-of-lt, mul-le-mul-left, mul-lt-mul-of-pos-left}
 use native.Mathlib.Omega.{arith}
-use mathlib.Core.Bool.{Bool, true, false, not, _&&_, _||_, cond, true≢false, false≢true}
-use lib.IntN.{ℤ, pos}
-use lib.Dec.{T, ltb, eqb, ltb→lt, nltb→le, eqb→eq, lit<, lit≤}
-use borrow.Author.Tests.{lt-ltb, le-ltb}
-use lib.Arith.{lt-of-le-ne}
+use mathlib.Core.Bool.{Bool, true, false, not, cond, true≢false, false≢true}
+use lib.IntN.{ℤ}
+use lib.Dec.{T, leb, ltb, lit<, lit≤}
+use borrow.Author.Tests.{leb-true, leb-false, lt-ltb, le-ltb}
 use lib.Pow.{pow-pos, pow-mono, pow-lt}
-use lib.Ieee.{Float, nan, inf, fin, Format, binary32, binary64, prec, emax, low, up, down, size, nearest, odd, units, round, neg, add, sub, le, lt, fits, isNan, ofBits, toBits}
-use lib.Ieee.Fits.{down-pos, eq→eqb, round-is, round-fits}
+use lib.Ieee.{Float, nan, inf, fin, Format, binary32, binary64, prec, emax, low, up, down, size, nearest, odd, units, round, neg, add, sub, le, fits, isNan, ofBits, toBits}
+use lib.Ieee.Fits.{down-pos, round-is, round-fits}
 use lib.Ieee.Exact.{HasValue}
 use lib.Ieee.Scale.{round-same}
 use Rattle.folds.proofs.Tests.{lt-or-ge}
@@ -20,7 +19,7 @@ use Rattle.floats.specs.Convert.{converted}
 use Rattle.floats.specs.Least.{greater}
 use Rattle.floats.specs.Signs.{negative, absolute}
 use Rattle.floats.proofs.Values.{unitsOf, fitting, units-value}
-use Rattle.floats.proofs.Fractions.{lt-at, neg-round}
+use Rattle.floats.proofs.Fractions.{lt-values, le-values, neg-round}
 use Rattle.floats.proofs.Narrowing.{end, rounded, in-range, out-of-range, place-of}
 use Rattle.floats.proofs.Fields.{exponent, power}
 
@@ -29,54 +28,22 @@ use Rattle.floats.proofs.Fields.{exponent, power}
 abbrev pub limit : Float
 limit = ofBits binary64 5183643170835005440
 
-limit-is : limit ≡ fin false 33554431 (pos 103)
+limit-value : HasValue limit false end (2 ^ 1074)
 unfolding ofBits
-limit-is = refl
-
--- the comparison, as one of whole numbers
-cross : (m : ℕ) (e : ℤ) → le limit (fin false m e) ≡ (ltb (33554431 * 2 ^ 103 * down e) (m * up e * 1) || (eqb (33554431 * 2 ^ 103 * down e) (m * up e * 1) && true))
-unfolding le
-cross m e = ap (λ (x : Float). le x (fin false m e)) limit-is
-
-at-least : (a b : ℕ) → (ltb a b || (eqb a b && true)) ≡ true → a ≤ b
-at-least a b = go (ltb a b) (eqb a b) (ltb→lt a b) (eqb→eq a b)
-  where
-    go : (s t : Bool) → (T s → a < b) → (T t → a ≡ b) → (s || (t && true)) ≡ true → a ≤ b
-    go true t h k e = le-of-lt (h tt)
-    go false true h k e = le-of-eq (k tt)
-    go false false h k e = absurd (false≢true e)
-
-less : (a b : ℕ) → (ltb a b || (eqb a b && true)) ≡ false → b < a
-less a b = go (ltb a b) (eqb a b) (nltb→le a b) (λ (p : a ≡ b). eq→eqb p)
-  where
-    go : (s t : Bool) → (T (not s) → b ≤ a) → (a ≡ b → T t) → (s || (t && true)) ≡ false → b < a
-    go true t h k e = absurd (true≢false e)
-    go false true h k e = absurd (true≢false e)
-    go false false h k e = lt-of-le-ne (h tt) (λ (p : b ≡ a). k (sym p))
+limit-value = (refl, refl)
 
 module _ (s : Bool) (m : ℕ) (e : ℤ) (h : T (fits binary64 (fin s m e))) where
-  N : ℕ
-  N = unitsOf binary64 m e
-
   in-full : m * up e * 2 ^ 1074 ≡ unitsOf binary64 m e * down e
   in-full = units-value binary64 s m e (fitting binary64 s m e h) .1
 
-  scaled : 33554431 * 2 ^ 103 * down e * 2 ^ 1074 ≡ end * down e
-  scaled = mul-right-comm (33554431 * 2 ^ 103) (down e) (2 ^ 1074)
-
-  full : m * up e * 1 * 2 ^ 1074 ≡ unitsOf binary64 m e * down e
-  full = ap (λ (x : ℕ). x * 2 ^ 1074) (mul-one (m * up e)) ∙ in-full
+  limit-at : le limit (fin false m e) ≡ leb end (unitsOf binary64 m e)
+  limit-at = le-values limit (fin false m e) end (unitsOf binary64 m e) (2 ^ 1074) (pow-pos 1074) limit-value (refl, in-full)
 
   reaches : le limit (fin false m e) ≡ true → end ≤ unitsOf binary64 m e
-  reaches t =
-      le-of-mul-le-mul-right
-      (le-trans (le-of-eq (sym scaled)) (le-trans (mul-le-mul-right (2 ^ 1074) (at-least (33554431 * 2 ^ 103 * down e) (m * up e * 1) (sym (cross m e) ∙ t))) (le-of-eq full)))
-      (down-pos e)
+  reaches t = leb-true end (unitsOf binary64 m e) (sym limit-at ∙ t)
 
   stays : le limit (fin false m e) ≡ false → unitsOf binary64 m e < end
-  stays t =
-      lt-of-mul-lt-mul-right (down e)
-      (lt-of-le-of-lt (le-of-eq (sym full)) (lt-of-lt-of-le (mul-lt-mul-of-pos-right (less (33554431 * 2 ^ 103 * down e) (m * up e * 1) (sym (cross m e) ∙ t)) (pow-pos 1074)) (le-of-eq scaled)))
+  stays t = leb-false end (unitsOf binary64 m e) (sym limit-at ∙ t)
 
   -- the magnitude converted is its units rounded
   by-units : round binary32 false (m * up e) (down e) ≡ round binary32 false (unitsOf binary64 m e) (2 ^ 1074)
@@ -108,36 +75,14 @@ unit-value n h =
 -- of two such powers the greater has the greater field
 pub greater-unit : (n : ℕ) → n ≤ 1150 → greater (unitAt 897) (unitAt n) ≡ unitAt (max 897 n)
 unfolding greater ofBits
-greater-unit n h = ap (λ (t : Bool). cond t (unitAt n) (unitAt 897)) by-field ∙ pick (lt-or-ge 897 n)
-  where
-    by-field : lt (unitAt 897) (unitAt n) ≡ ltb (4503599627370496 * 2 ^ 925 * 2 ^ 1074) (4503599627370496 * 2 ^ (n + 28) * 2 ^ 1074)
-    by-field =
-        lt-at false false (4503599627370496 * 2 ^ 925) (2 ^ 1074) (4503599627370496 * 2 ^ (n + 28)) (2 ^ 1074) (pow-pos 1074) (pow-pos 1074)
-        (unitAt 897) (unitAt n) (unit-value 897 (lit≤ tt)) (unit-value n h)
-
-    more : 897 < n → 925 < n + 28
-    more g = omega arith
-
-    no-more : n ≤ 897 → n + 28 ≤ 925
-    no-more g = omega arith
-
-    is-n : 897 < n → n ≡ max 897 n
-    is-n g = omega arith
-
-    is-least : n ≤ 897 → 897 ≡ max 897 n
-    is-least g = omega arith
-
-    pick : (897 < n) ⊎ (n ≤ 897) → cond (ltb (4503599627370496 * 2 ^ 925 * 2 ^ 1074) (4503599627370496 * 2 ^ (n + 28) * 2 ^ 1074)) (unitAt n) (unitAt 897) ≡ unitAt (max 897 n)
-    pick (inl g) =
-        ap (λ (t : Bool). cond t (unitAt n) (unitAt 897))
-        (lt-ltb (4503599627370496 * 2 ^ 925 * 2 ^ 1074) (4503599627370496 * 2 ^ (n + 28) * 2 ^ 1074)
-        (mul-lt-mul-of-pos-right (mul-lt-mul-of-pos-left (pow-lt (more g)) (lit< tt)) (pow-pos 1074)))
-        ∙ ap unitAt (is-n g)
-    pick (inr g) =
-        ap (λ (t : Bool). cond t (unitAt n) (unitAt 897))
-        (le-ltb (4503599627370496 * 2 ^ 925 * 2 ^ 1074) (4503599627370496 * 2 ^ (n + 28) * 2 ^ 1074)
-        (mul-le-mul-right (2 ^ 1074) (mul-le-mul-left 4503599627370496 (pow-mono (no-more g)))))
-        ∙ ap unitAt (is-least g)
+greater-unit n h =
+    let A = 4503599627370496 * 2 ^ 925 in
+    let B = 4503599627370496 * 2 ^ (n + 28) in
+    let e = lt-values (unitAt 897) (unitAt n) A B (2 ^ 1074) (pow-pos 1074) (unit-value 897 (lit≤ tt)) (unit-value n h) in
+    elim (lt-or-ge 897 n) [
+      | inl g ↦ rw (e ∙ lt-ltb A B (mul-lt-mul-of-pos-left (pow-lt {i = 925} {j = n + 28} (omega arith)) (lit< tt)), max-eq-right (le-of-lt g))
+      | inr g ↦ rw (e ∙ le-ltb A B (mul-le-mul-left 4503599627370496 (pow-mono {i = n + 28} {j = 925} (omega arith))), max-eq-left g)
+    ]
 
 held : (z : ℕ) → max 897 (z - 52) ≡ 897 + (z - 949)
 held z = omega arith
