@@ -1,8 +1,8 @@
 -- What `narrow` works out, as floats: below the end of f32 the sum of the magnitude and the power of two, less that power, is the
 -- magnitude converted; from there on an infinity is; and the sign goes on last. Assumes nothing.
-use mathlib.Core.Path.{_≡_, refl, sym, ap, _∙_, subst}
+use mathlib.Core.Path.{_≡_, refl, sym, ap, _∙_}
 use mathlib.Core.Logic.{inl, inr}
-use Prim.Native.Nat.{ℕ, zero, suc, _+_, _-_, _*_, _/_, _%_, _^_, _≤_, _<_, max, compare}
+use Prim.Native.Nat.{ℕ, zero, suc, _+_, _-_, _*_, _/_, _^_, _≤_, _<_, max}
 use native.Mathlib.Nat.{max-eq-left, max-eq-right, le-of-lt, mul-le-mul-left, mul-lt-mul-of-pos-left}
 use native.Mathlib.Omega.{arith}
 use mathlib.Core.Bool.{Bool, true, false, not, cond, true≢false, false≢true}
@@ -10,7 +10,7 @@ use lib.IntN.{ℤ}
 use lib.Dec.{T, leb, ltb, lit<, lit≤}
 use borrow.Author.Tests.{leb-true, leb-false, lt-ltb, le-ltb}
 use lib.Pow.{pow-pos, pow-mono, pow-lt}
-use lib.Ieee.{Float, nan, inf, fin, Format, binary32, binary64, prec, emax, low, up, down, size, nearest, odd, units, round, neg, add, sub, le, fits, isNan, ofBits, toBits}
+use lib.Ieee.{Float, nan, inf, fin, Format, binary32, binary64, prec, emax, low, up, down, size, odd, units, round, neg, add, sub, le, fits, isNan, ofBits, toBits}
 use lib.Ieee.Fits.{down-pos, round-is, round-fits}
 use lib.Ieee.Exact.{HasValue}
 use lib.Ieee.Scale.{round-same}
@@ -64,13 +64,8 @@ unitAt n = ofBits binary64 ((n + 29) * 4503599627370496)
 
 unit-value : (n : ℕ) → n ≤ 1150 → HasValue (unitAt n) false (4503599627370496 * 2 ^ (n + 28)) (2 ^ 1074)
 unit-value n h =
-    subst (λ (k : ℕ). HasValue (ofBits binary64 (k * 4503599627370496)) false (4503599627370496 * 2 ^ (n + 28)) (2 ^ 1074)) shift (power (n + 28) (small h))
-  where
-    shift : suc (n + 28) ≡ n + 29
-    shift = omega arith
-
-    small : n ≤ 1150 → suc (n + 28) < 2047
-    small g = omega arith
+    let e : suc (n + 28) ≡ n + 29 = omega arith in
+    rw e at (power (n + 28) (omega arith))
 
 -- of two such powers the greater has the greater field
 pub greater-unit : (n : ℕ) → n ≤ 1150 → greater (unitAt 897) (unitAt n) ≡ unitAt (max 897 n)
@@ -84,9 +79,6 @@ greater-unit n h =
       | inr g ↦ rw (e ∙ le-ltb A B (mul-le-mul-left 4503599627370496 (pow-mono {i = n + 28} {j = 925} (omega arith))), max-eq-left g)
     ]
 
-held : (z : ℕ) → max 897 (z - 52) ≡ 897 + (z - 949)
-held z = omega arith
-
 -- below the end the exponent field is small
 pub field-lt : (x : Float) → T (fits binary64 x) → T (not (isNan x)) → negative x ≡ false → le limit x ≡ false → toBits binary64 x / 4503599627370496 ≤ 1150
 unfolding le isNan ofBits
@@ -96,10 +88,7 @@ field-lt (inf false) h k p t = absurd (true≢false t)
 field-lt (fin true m e) h k p t = absurd (true≢false p)
 field-lt (fin false m e) h k p t =
     let N = unitsOf binary64 m e in
-    subst (λ (z : ℕ). z ≤ 1150) (sym (exponent m e)) (small (size N) (place-of N (stays false m e h t) .most))
-  where
-    small : (z : ℕ) → z - 949 ≤ 253 → z - 52 ≤ 1150
-    small z b = omega arith
+    rw (exponent m e) (omega (arith, place-of N (stays false m e h t) .most))
 
 pub summed : (x w : Float) → T (fits binary64 x) → T (not (isNan x)) → negative x ≡ false → le limit x ≡ false → w ≡ unitAt (max 897 (toBits binary64 x / 4503599627370496))
     → sub binary64 (add binary64 x w) w ≡ converted binary32 x
@@ -112,18 +101,12 @@ summed (fin false m e) w h k p t q =
     let N = unitsOf binary64 m e in
     let i = size N - 949 in
     let place = place-of N (stays false m e h t) in
-    let w-is : w ≡ unitAt (897 + i) = q ∙ ap (λ (z : ℕ). unitAt (max 897 z)) (exponent m e) ∙ ap unitAt (held (size N)) in
-    ap (λ (y : Float). sub binary64 (add binary64 (fin false m e) y) y) w-is
-    ∙ rounded N i place (fin false m e) (unitAt (897 + i)) (units-value binary64 false m e (fitting binary64 false m e h))
-    (subst (λ (j : ℕ). HasValue (unitAt (897 + i)) false (4503599627370496 * 2 ^ j) (2 ^ 1074)) (shift i) (unit-value (897 + i) (small i (place .most))))
-    (in-range N i place (stays false m e h t))
+    let z : max 897 (size N - 52) ≡ 897 + i = omega arith in
+    let u : 897 + i + 28 ≡ 925 + i = omega arith in
+    rw (q, exponent m e, z)
+    (rounded N i place (fin false m e) (unitAt (897 + i)) (units-value binary64 false m e (fitting binary64 false m e h))
+    (rw u at (unit-value (897 + i) (omega (arith, place .most)))) (in-range N i place (stays false m e h t)))
     ∙ sym (by-units false m e h)
-  where
-    shift : (i : ℕ) → 897 + i + 28 ≡ 925 + i
-    shift i = omega arith
-
-    small : (i : ℕ) → i ≤ 253 → 897 + i ≤ 1150
-    small i g = omega arith
 
 -- ---- and the sign goes on last
 
@@ -154,8 +137,4 @@ pub converted-not-nan : (f : Format) (x : Float) → T (not (isNan x)) → T (no
 unfolding converted isNan
 converted-not-nan f nan h = h
 converted-not-nan f (inf s) h = tt
-converted-not-nan f (fin s m e) h =
-    let n = m * up e * 2 ^ low f in
-    let k = size (n / down e) - prec f in
-    let u = down e * 2 ^ k in
-    subst (λ (y : Float). T (not (isNan y))) (sym (round-is f s (m * up e) (down e))) (units-not-nan f s (nearest (n / u) (compare (n % u * 2) u)) k)
+converted-not-nan f (fin s m e) h = rw round-is (units-not-nan f s _ _)
