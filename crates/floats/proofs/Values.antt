@@ -9,6 +9,7 @@ use lib.IntN.{ℤ, pos, negsuc}
 use lib.Dec.{T, ltb, leb, eqb, ltb→lt, leb→le, eqb→eq, lit≤}
 use lib.Pow.{pow-add, pow-pos, pow-lt}
 use lib.Ieee.{Float, nan, inf, fin, Format, prec, emax, low, up, down, size, round, fits, hid, top, ofBits, toBits}
+use lib.Ieee.Digits.{back}
 use lib.Ieee.Fits.{and-l, and-r, down-pos, round-fits}
 use lib.Ieee.Bits.{ofBits-toBits}
 use lib.Ieee.Exact.{HasValue, round-exact}
@@ -58,9 +59,6 @@ fitting f s (suc m) e h =
 pow-le-back : (a l : ℕ) → 2 ^ a ≤ 2 ^ l → a ≤ l
 pow-le-back a l h = le-of-suc-le-suc (lt-of-not-le (λ (g : suc l ≤ a). lt-irrefl (2 ^ l) (lt-of-lt-of-le (pow-lt g) h)))
 
-rejoin : (a l : ℕ) → a ≤ l → l - a + a ≡ l
-rejoin a l h = omega arith
-
 -- 2 ^ e in units is 2 ^ j, for the j that `place` gives
 place : (l : ℕ) (e : ℤ) → down e ≤ 2 ^ l → (j : ℕ) × ((m : ℕ) → m * up e * 2 ^ l ≡ m * 2 ^ j * down e)
 place l (pos a) h = (a + l, λ m. mul-assoc m (2 ^ a) (2 ^ l) ∙ ap (λ (x : ℕ). m * x) (sym (pow-add 2 a l)) ∙ sym (mul-one (m * 2 ^ (a + l))))
@@ -68,7 +66,7 @@ place l (negsuc a) h = (
   l - suc a,
   λ m.
       ap (λ (x : ℕ). x * 2 ^ l) (mul-one m)
-      ∙ ap (λ (x : ℕ). m * x) (ap (λ (x : ℕ). 2 ^ x) (sym (rejoin (suc a) l (pow-le-back (suc a) l h))) ∙ pow-add 2 (l - suc a) (suc a))
+      ∙ ap (λ (x : ℕ). m * x) (ap (λ (x : ℕ). 2 ^ x) (sym (back l (suc a) (pow-le-back (suc a) l h))) ∙ pow-add 2 (l - suc a) (suc a))
       ∙ sym (mul-assoc m (2 ^ (l - suc a)) (2 ^ suc a)),
 )
 
