@@ -1,5 +1,5 @@
 -- The lesser and the greater of two floats as the code finds them: first by `<`, then by the test for a NaN.
--- Only the NaN differs from itself, so the second test picks out the first clause of the definition.
+-- Only the NaN differs from itself, so the second test picks out the first clause of the definition. Assumes nothing.
 use mathlib.Core.Path.{_≡_, refl}
 use mathlib.Core.Bool.{true, false, not, cond}
 use Prim.Native.Nat.{_*_}

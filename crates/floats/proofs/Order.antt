@@ -1,5 +1,5 @@
 -- The order of all floats. A finite value is a difference of two naturals over a denominator, so that `<`, `==` and `<=` are those
--- of cross-multiplied sums; from that `<=` is transitive, and off the NaN `x < y` is the opposite of `y <= x`. The rest follows.
+-- of cross-multiplied sums; from that `<=` is transitive, and off the NaN `x < y` is the opposite of `y <= x`. The rest follows. Assumes nothing.
 use mathlib.Core.Path.{_≡_, refl, sym, _∙_}
 use mathlib.Core.Logic.{_⊎_, inl, inr}
 use mathlib.Core.Bool.{Bool, true, false, not, _&&_, _||_, cond, and-true, false≢true}

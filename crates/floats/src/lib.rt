@@ -1,5 +1,5 @@
-// Float helpers (document 01, module 1): what Rust's `as`, floor, ceil, min, max and total_cmp give, for every float, in
-// operations that lose nothing. Each contract is an equality with a definition of specs/, which states IEEE 754's sentence.
+// Float helpers (document 01, module 1): what Rust's `as`, floor, ceil, min, max and total_cmp give, for every float, all NaNs taken as one, in
+// operations that lose nothing. Each contract is an equality with a definition of specs/ or of the toolchain's IEEE 754.
 ghost use mathlib.Core.Path.{_≡_};
 ghost use mathlib.Core.Bool.{false, not};
 ghost use lib.Dec.{T};
