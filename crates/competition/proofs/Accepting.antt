@@ -20,7 +20,7 @@ use Rattle.counting.specs.Labels.{isDecoy}
 use Rattle.competition.specs.Tables.{Table, isSeen, tableShort, tableFits, noPart, allowed, allAllowed, raiseForward, raiseReverse, withRow, added, addAnswer, addedTable, AddReady}
 use Rattle.competition.specs.Winners.{slotSeen, winner, decoyFlag, winnersAnswer, winnerScores, winnerDecoys}
 use Rattle.competition.proofs.Answers.{table-fitting}
-use Rattle.competition.proofs.Rows.{SameLengths, same-lengths-trans, row-lengths}
+use Rattle.competition.proofs.Rows.{same-lengths-refl, SameLengths, same-lengths-trans, row-lengths}
 
 -- ---- an accepted batch
 
@@ -87,6 +87,26 @@ pub table-of-accepted : (slots : List ℕ) (labels : List ℤ) (scores : List Fl
 unfolding addedTable
 table-of-accepted slots labels scores t e = rw e
 
+-- another batch, for a table that accepts one
+pub accepted-part : {slots : List ℕ} {labels : List ℤ} {scores : List Float} {t : Table} → Accepting slots labels scores t
+    → (slots′ : List ℕ) (labels′ : List ℤ) (scores′ : List Float) → length slots′ ≤ longest → length labels′ ≡ length slots′ → length scores′ ≡ length slots′
+    → allAllowed (length (t .forward)) slots′ ≡ true → addAnswer slots′ labels′ scores′ t ≡ Accepted
+accepted-part w slots′ labels′ scores′ h l s a =
+    let r = w .ready in
+    accepted-when {slots = slots′} {labels = labels′} {scores = scores′}
+    (record {
+      short = h;
+      table-short = w .table-short;
+      ready = record {
+        labels-fit = l;
+        scores-fit = s;
+        reverse-fit = r .reverse-fit;
+        forward-marks = r .forward-marks;
+        reverse-marks = r .reverse-marks;
+        slots-allowed = a;
+      };
+    })
+
 pub all-allowed-joined : (count : ℕ) (a c : List ℕ) → allAllowed count (a ++ c) ≡ (allAllowed count a && allAllowed count c)
 unfolding allAllowed
 all-allowed-joined count [] c = refl
@@ -94,9 +114,6 @@ all-allowed-joined count (s ∷ a) c =
     ap (λ (b : Bool). allowed count s && b) (all-allowed-joined count a c) ∙ sym (and-assoc (allowed count s) (allAllowed count a) (allAllowed count c))
 
 -- ---- the lengths of a table's columns
-
-same-lengths-refl : {t : Table} → SameLengths t t
-same-lengths-refl = record { forward = refl; reverse = refl; forwardSeen = refl; reverseSeen = refl }
 
 pub batch-lengths : (slots : List ℕ) (labels : List ℤ) (scores : List Float) (t : Table) → SameLengths (added slots labels scores t) t
 unfolding added
@@ -154,8 +171,6 @@ pub keeps-or : (o : Outcome) {t u : Table} → KeepsSeen t u → KeepsSeen t (if
 keeps-or Accepted w = w
 keeps-or (Refused r) w = keeps-refl
 
--- ---- columns of one value
-
 -- ---- winners of a table in which no slot is seen
 
 results-fit : (u : Table) (scores decoys : ℕ) → winnersAnswer u scores decoys ≡ Accepted → (scores ≡ length (u .forward)) × (decoys ≡ length (u .forward))
@@ -174,24 +189,18 @@ results-fit u scores decoys e = go (tableShort u) (tableFits u) (eqb scores n) (
     go false b c d p q e = absurd (refused TooLong e)
 
 module _ (u : Table) (unseen : (slot : ℕ) → slotSeen u slot ≡ false) (scores : List Float) (decoys : List ℕ) where
+  answer : Outcome
+  answer = winnersAnswer u (length scores) (length decoys)
+
+  unseen-column : {A : Type 0} (f : ℕ → A) (v : A) (column : List A) → ((slot : ℕ) → f slot ≡ v) → (answer ≡ Accepted → length column ≡ length (u .forward))
+      → (o : Outcome) → answer ≡ o → ifAccepted o (tabulated f 0 (length (u .forward))) (filled v column) ≡ filled v column
+  unseen-column f v column e n Accepted a = tabulated-constant f v e 0 (length (u .forward)) ∙ ap (λ (k : ℕ). replicate k v) (sym (n a))
+  unseen-column f v column e n (Refused r) a = refl
+
   pub unseen-scores : winnerScores u scores decoys ≡ filled nan scores
-  unfolding winnerScores
-  unseen-scores = go (winnersAnswer u (length scores) (length decoys)) refl
-    where
-      go : (o : Outcome) → winnersAnswer u (length scores) (length decoys) ≡ o
-          → ifAccepted o (tabulated (winner u) 0 (length (u .forward))) (filled nan scores) ≡ filled nan scores
-      go Accepted e =
-          tabulated-constant (winner u) nan (λ i. rw (unseen i)) 0 (length (u .forward))
-          ∙ ap (λ (k : ℕ). replicate k nan) (sym (results-fit u (length scores) (length decoys) e .0))
-      go (Refused r) e = refl
+  unfolding winnerScores answer
+  unseen-scores = unseen-column (winner u) nan scores (λ i. rw (unseen i)) (λ e. results-fit u (length scores) (length decoys) e .0) answer refl
 
   pub unseen-decoys : winnerDecoys u scores decoys ≡ filled 4294967295 decoys
-  unfolding winnerDecoys
-  unseen-decoys = go (winnersAnswer u (length scores) (length decoys)) refl
-    where
-      go : (o : Outcome) → winnersAnswer u (length scores) (length decoys) ≡ o
-          → ifAccepted o (tabulated (decoyFlag u) 0 (length (u .forward))) (filled 4294967295 decoys) ≡ filled 4294967295 decoys
-      go Accepted e =
-          tabulated-constant (decoyFlag u) 4294967295 (λ i. rw (unseen i)) 0 (length (u .forward))
-          ∙ ap (λ (k : ℕ). replicate {A = ℕ} k 4294967295) (sym (results-fit u (length scores) (length decoys) e .1))
-      go (Refused r) e = refl
+  unfolding winnerDecoys answer
+  unseen-decoys = unseen-column (decoyFlag u) 4294967295 decoys (λ i. rw (unseen i)) (λ e. results-fit u (length scores) (length decoys) e .1) answer refl

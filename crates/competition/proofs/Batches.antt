@@ -22,7 +22,7 @@ use Rattle.counting.specs.Labels.{isDecoy}
 use Rattle.competition.specs.Tables.{Table, tableOf, lowest, noPart, freshAnswer, freshTable, allAllowed, withRow, added, addAnswer, addedTable}
 use Rattle.competition.specs.Winners.{slotSeen, decoyFlag, winnerScores, winnerDecoys}
 use Rattle.competition.proofs.Rows.{SameLengths}
-use Rattle.competition.proofs.Accepting.{accepting, accepted-when, table-of-accepted, all-allowed-joined, batch-lengths, same-lengths-or, answer-by-lengths, KeepsSeen, batch-keeps, keeps-or, unseen-scores, unseen-decoys}
+use Rattle.competition.proofs.Accepting.{accepting, accepted-part, table-of-accepted, all-allowed-joined, batch-lengths, same-lengths-or, answer-by-lengths, KeepsSeen, batch-keeps, keeps-or, unseen-scores, unseen-decoys}
 
 -- ---- batch after batch
 
@@ -73,19 +73,9 @@ joined-calls a c b d x y t p q h =
     let r = f .ready in
     let u = g .ready in
     let e : addAnswer (a ++ c) (b ++ d) (x ++ y) t ≡ Accepted =
-    accepted-when
-    (record {
-      short = h;
-      table-short = f .table-short;
-      ready = record {
-        labels-fit = omega (arith, length-append b d, length-append a c, r .labels-fit, u .labels-fit);
-        scores-fit = omega (arith, length-append x y, length-append a c, r .scores-fit, u .scores-fit);
-        reverse-fit = r .reverse-fit;
-        forward-marks = r .forward-marks;
-        reverse-marks = r .reverse-marks;
-        slots-allowed = rw (all-allowed-joined (length (t .forward)) a c, r .slots-allowed, u .slots-allowed);
-      };
-    }) in (
+    accepted-part f (a ++ c) (b ++ d) (x ++ y) h (omega (arith, length-append b d, length-append a c, r .labels-fit, u .labels-fit))
+    (omega (arith, length-append x y, length-append a c, r .scores-fit, u .scores-fit))
+    (rw (all-allowed-joined (length (t .forward)) a c, r .slots-allowed, u .slots-allowed)) in (
       e,
       table-of-accepted (a ++ c) (b ++ d) (x ++ y) t e
           ∙ joined-rows a c b d x y (r .labels-fit) (r .scores-fit) t
@@ -103,33 +93,11 @@ split-call a c b d x y t p q e =
     let h = f .short in
     let n = length (t .forward) in
     let s = both (allAllowed n a) (allAllowed n c) (sym (all-allowed-joined n a c) ∙ r .slots-allowed) in (
-      accepted-when
-          (record {
-            short = omega (arith, length-append a c);
-            table-short = f .table-short;
-            ready = record {
-              labels-fit = p;
-              scores-fit = q;
-              reverse-fit = r .reverse-fit;
-              forward-marks = r .forward-marks;
-              reverse-marks = r .reverse-marks;
-              slots-allowed = s .0;
-            };
-          }),
+      accepted-part f a b x (omega (arith, length-append a c)) p q (s .0),
       later-answer a b x c d y t
-          ∙ accepted-when
-          (record {
-            short = omega (arith, length-append a c);
-            table-short = f .table-short;
-            ready = record {
-              labels-fit = omega (arith, length-append a c, length-append b d, r .labels-fit);
-              scores-fit = omega (arith, length-append a c, length-append x y, r .scores-fit);
-              reverse-fit = r .reverse-fit;
-              forward-marks = r .forward-marks;
-              reverse-marks = r .reverse-marks;
-              slots-allowed = s .1;
-            };
-          }),
+          ∙ accepted-part f c d y (omega (arith, length-append a c)) (omega (arith, length-append a c, length-append b d, r .labels-fit))
+          (omega (arith, length-append a c, length-append x y, r .scores-fit))
+          (s .1),
     )
 
 -- ---- one row

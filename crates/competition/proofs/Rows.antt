@@ -47,6 +47,9 @@ pub record SameLengths (t u : Table) : Type 0 where
   pub forwardSeen : length (t .forwardSeen) ≡ length (u .forwardSeen)
   pub reverseSeen : length (t .reverseSeen) ≡ length (u .reverseSeen)
 
+pub same-lengths-refl : {t : Table} → SameLengths t t
+same-lengths-refl = record { forward = refl; reverse = refl; forwardSeen = refl; reverseSeen = refl }
+
 pub same-lengths-trans : {t u v : Table} → SameLengths t u → SameLengths u v → SameLengths t v
 same-lengths-trans p q = record {
   forward = p .forward ∙ q .forward;
@@ -59,7 +62,7 @@ pub row-lengths : (slot : ℕ) (label : ℤ) (score : Float) (t : Table) → Sam
 row-lengths slot label score t = go (eqb slot noPart) (isDecoy label)
   where
     go : (n d : Bool) → SameLengths (cond n t (cond d (raiseReverse slot score t) (raiseForward slot score t))) t
-    go true d = record { forward = refl; reverse = refl; forwardSeen = refl; reverseSeen = refl }
+    go true d = same-lengths-refl
     go false true = record {
       forward = refl;
       reverse = length-set (t .reverse) slot _;
@@ -92,7 +95,7 @@ module _ {slots : List ℕ} {labels : List ℤ} {scores : List Float} {t₀ : Ta
   pub adding-start : Adding slots labels scores t₀ t₀ 0
   adding-start = record {
     high = zero-le;
-    same = record { forward = refl; reverse = refl; forwardSeen = refl; reverseSeen = refl };
+    same = same-lengths-refl;
     left = ready .slots-allowed;
     is = refl;
   }

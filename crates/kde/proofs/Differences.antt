@@ -11,6 +11,7 @@ use lib.Pow.{pow-pos}
 use lib.IntN.{ℤ, pos}
 use lib.Ieee.{Float, nan, inf, fin, Format, binary32, binary64, low, up, down, below, level, round, sum, neg, add, sub, lt, eq, fits}
 use lib.Ieee.Fits.{down-pos, and-l, and-r}
+use lib.Ieee.Bits.{is-true}
 use lib.Ieee.Order.{round-mono}
 use lib.Ieee.Scale.{round-same, finite}
 use Rattle.floats.proofs.Values.{fitting, in-units}
@@ -19,10 +20,6 @@ use Rattle.floats.proofs.Order.{lt-of-lt-of-le}
 
 abbrev pub nought : Float
 nought = fin false 0 (pos 0)
-
-true-of : (b : Bool) → T b → b ≡ true
-true-of true t = refl
-true-of false t = absurd t
 
 -- ---- rounding at zero and next to it
 
@@ -145,7 +142,7 @@ module _ (f : Format) where
       let u = in-smallest s m e d p in
       let v = in-smallest t n d e q in
       let k = sum-below f (m * up e * down d) (n * up d * down e) (down e * down d) (u .0) (v .0) (u .1) (v .1 ∙ ap (λ (x : ℕ). v .0 * x) (mul-comm (down d) (down e)))
-      s t (true-of (below s (m * up e * down d) t (n * up d * down e)) h) in
+      s t (is-true (below s (m * up e * down d) t (n * up d * down e)) h) in
       rw (k .is) (round-below f (k .size) (down e * down d) (mul-pos (down-pos e) (down-pos d)) (k .least))
 
   pub sub-above : (x y : Float) → T (fits f x) → T (fits f y) → T (lt x y) → T (lt nought (sub f y x))
@@ -164,7 +161,7 @@ module _ (f : Format) where
       let u = in-smallest s m e d p in
       let v = in-smallest t n d e q in
       let k = sum-above f (m * up e * down d) (n * up d * down e) (down d * down e) (u .0) (v .0) (u .1 ∙ ap (λ (x : ℕ). u .0 * x) (mul-comm (down e) (down d))) (v .1)
-      s t (true-of (below s (m * up e * down d) t (n * up d * down e)) h) in
+      s t (is-true (below s (m * up e * down d) t (n * up d * down e)) h) in
       rw (k .is) (round-above f (k .size) (down d * down e) (mul-pos (down-pos d) (down-pos e)) (k .least))
 
   pub sub-level : (x y : Float) → T (finite x) → T (eq x y) → (r : Bool) × (sub f y x ≡ fin r 0 (pos 0))

@@ -1,4 +1,4 @@
--- An answer's number goes through the machine's 32 bits and comes back. Assumes nothing.
+-- An answer's number goes through the machine's 32 bits and comes back; and the bare ranking's answers by its two questions. Assumes nothing.
 use mathlib.Core.Path.{_≡_, refl, sym, ap, ap₂, _∙_}
 use mathlib.Core.List.{List}
 use mathlib.Core.Bool.{Bool, true, false, cond}
