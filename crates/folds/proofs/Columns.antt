@@ -1,55 +1,19 @@
 -- Columns that a loop writes from the front or from the back, one place a turn. Assumes nothing.
 use mathlib.Core.Path.{_≡_, refl, sym, ap, _∙_, subst}
 use mathlib.Core.Logic.{_⊎_, inl, inr}
-use mathlib.Core.List.{List, [], _∷_, _++_, append-assoc}
+use mathlib.Core.List.{List, _∷_, _++_, append-assoc}
 use Prim.Native.Nat.{ℕ, zero, suc, _+_, _≤_, _<_, zero-le}
 use native.Mathlib.Nat.{not-suc-le-zero, le-of-suc-le-suc, lt-of-lt-of-le, ne-of-lt, ne-of-gt, le-refl, zero-add, add-comm, add-suc, suc-add}
 use native.Mathlib.Numerals.{add-one}
 use native.Mathlib.Omega.{arith}
 use mathlib.Core.Bool.{cond}
 use lib.Dec.{ltb}
-use lib.ListN.{length, take, drop, set, getD, replicate, length-set}
+use lib.ListN.{length, take, set, getD, replicate, length-set}
 use lib.Seq.{take-suc-set, getD-set-same, getD-set-other, ext-getD}
+use borrow.Author.Count.{below-more}
 use borrow.Author.Tests.{lt-ltb, le-ltb}
 use Rattle.folds.proofs.Tests.{lt-or-ge}
 use Rattle.folds.specs.Columns.{filled, tabulated}
-
--- ---- filled with one value from the front: the first i places hold v, and the rest what came in
-
-pub record Filling {A : Type 0} (v : A) (column₀ column : List A) (i : ℕ) : Type 0 where
-  pub same : length column ≡ length column₀
-  pub high : i ≤ length column₀
-  pub is : column ≡ replicate i v ++ drop i column₀
-
-module _ {A : Type 0} where
-  fill-suc : (n : ℕ) (v : A) (d : List A) → n < length d → set (replicate n v ++ drop n d) n v ≡ replicate (suc n) v ++ drop (suc n) d
-  fill-suc n v [] l = absurd (not-suc-le-zero l)
-  fill-suc zero v (x ∷ d) l = refl
-  fill-suc (suc n) v (x ∷ d) l = ap (λ (t : List A). v ∷ t) (fill-suc n v d (le-of-suc-le-suc l))
-
-  all-filled : (v : A) (d : List A) → replicate (length d) v ++ drop (length d) d ≡ filled v d
-  all-filled v [] = refl
-  all-filled v (x ∷ d) = ap (λ (t : List A). v ∷ t) (all-filled v d)
-
-pub filling-start : {A : Type 0} (v : A) (column : List A) → Filling v column column 0
-filling-start v column = record { same = refl; high = zero-le; is = refl }
-
-pub filling-step : {A : Type 0} {v : A} {column₀ column : List A} {i : ℕ} → Filling v column₀ column i → i < length column
-    → Filling v column₀ (set column i v) (i + 1)
-filling-step {A} {v} {column₀} {column} {i} w h =
-    let l : i < length column₀ = subst (λ (n : ℕ). i < n) (w .same) h in
-    record {
-      same = length-set column i v ∙ w .same;
-      high = omega arith;
-      is = ap (λ (c : List A). set c i v) (w .is) ∙ fill-suc i v column₀ l ∙ ap (λ (n : ℕ). replicate n v ++ drop n column₀) (sym (add-one i));
-    }
-
-pub filling-done : {A : Type 0} {v : A} {column₀ column : List A} {i : ℕ} → Filling v column₀ column i → length column ≤ i → column ≡ filled v column₀
-filling-done {A} {v} {column₀} {column} {i} w h =
-    let h′ = w .high in
-    let s = w .same in
-    let e : i ≡ length column₀ = omega arith in
-    w .is ∙ ap (λ (n : ℕ). replicate n v ++ drop n column₀) e ∙ all-filled v column₀
 
 -- columns of one length have one blank
 pub same-blank : {A : Type 0} (v : A) (c d : List A) → length c ≡ length d → filled v c ≡ filled v d
@@ -140,17 +104,10 @@ pub writing-step : {A : Type 0} {f : ℕ → A} {d : A} {n : ℕ} {column : List
 writing-step {A} {f} {d} {n} {column} {i} {v} w h e = record {
   same = length-set column i v ∙ w .same;
   high = omega arith;
-  is = λ k l. go k (lt-or-ge k i) l;
+  is = below-more (λ k. getD (set column i v) k d ≡ f k) i
+      (λ k g. getD-set-other column i k v d (ne-of-lt g) ∙ w .is k g)
+      (getD-set-same column i v d (omega (arith, w .same)) ∙ e);
 }
-  where
-    inside : i < length column
-    inside = subst (λ (m : ℕ). i < m) (sym (w .same)) h
-
-    go : (k : ℕ) → (k < i) ⊎ (i ≤ k) → k < i + 1 → getD (set column i v) k d ≡ f k
-    go k (inl g) l = getD-set-other column i k v d (ne-of-lt g) ∙ w .is k g
-    go k (inr g) l =
-        let e′ : k ≡ i = omega arith in
-        ap (λ (m : ℕ). getD (set column i v) m d) e′ ∙ getD-set-same column i v d inside ∙ e ∙ ap f (sym e′)
 
 pub writing-done : {A : Type 0} {f : ℕ → A} {d : A} {n : ℕ} {column : List A} {i : ℕ} → Writing f d n column i → n ≤ i → column ≡ tabulated f 0 n
 writing-done {A} {f} {d} {n} {column} {i} w h =
@@ -167,42 +124,35 @@ writing-next {i = i} v w h e = writing-step w (subst (λ (m : ℕ). i < m) (w .s
 pub writing-all : {A : Type 0} {f : ℕ → A} {d : A} {n : ℕ} {column : List A} {i : ℕ} → Writing f d n column i → length column ≤ i → column ≡ tabulated f 0 n
 writing-all {i = i} w h = writing-done w (subst (λ (m : ℕ). m ≤ i) (w .same) h)
 
+-- with one value
+pub writing-filled : {A : Type 0} {v d : A} {n : ℕ} {column : List A} {i : ℕ} → Writing (λ k. v) d n column i → length column ≤ i → column ≡ replicate n v
+writing-filled {v = v} {n = n} w h = writing-all w h ∙ tabulated-constant (λ k. v) v (λ k. refl) 0 n
+
 -- ---- entries rewritten from the front, up to a width
 
 pub record Rewriting {A : Type 0} (old new : ℕ → A) (d : A) (n : ℕ) (column : List A) (i : ℕ) : Type 0 where
-  pub same : length column ≡ n
-  pub before : (k : ℕ) → k < i → getD column k d ≡ new k
+  pub front : Writing new d n column i
   pub after : (k : ℕ) → i ≤ k → getD column k d ≡ old k
 
 pub rewriting-start : {A : Type 0} {new : ℕ → A} {d : A} {n : ℕ} (column : List A) → length column ≡ n → Rewriting (λ k. getD column k d) new d n column 0
-rewriting-start column e = record { same = e; before = λ k h. absurd (not-suc-le-zero h); after = λ k h. refl }
+rewriting-start column e = record { front = writing-start e; after = λ k h. refl }
 
 pub rewriting-step : {A : Type 0} {old new : ℕ → A} {d : A} {n : ℕ} {column : List A} {i : ℕ} {v : A} → Rewriting old new d n column i → i < n → v ≡ new i
     → Rewriting old new d n (set column i v) (i + 1)
-rewriting-step {A} {old} {new} {d} {n} {column} {i} {v} w h e = record {
-  same = length-set column i v ∙ w .same;
-  before = λ k l. go k l (lt-or-ge k i);
+rewriting-step {d = d} {column = column} {i = i} {v = v} w h e = record {
+  front = writing-step (w .front) h e;
   after = λ k l. getD-set-other column i k v d (ne-of-gt (omega arith)) ∙ w .after k (omega arith);
 }
-  where
-    inside : i < length column
-    inside = subst (λ (m : ℕ). i < m) (sym (w .same)) h
-
-    go : (k : ℕ) → k < i + 1 → (k < i) ⊎ (i ≤ k) → getD (set column i v) k d ≡ new k
-    go k l (inl g) = getD-set-other column i k v d (ne-of-lt g) ∙ w .before k g
-    go k l (inr g) =
-        let z : k ≡ i = omega arith in
-        ap (λ (m : ℕ). getD (set column i v) m d) z ∙ getD-set-same column i v d inside ∙ e ∙ ap new (sym z)
 
 pub rewriting-done : {A : Type 0} {old new : ℕ → A} {d : A} {n : ℕ} {column : List A} {i width : ℕ} → Rewriting old new d n column i → i ≤ width → width ≤ i
     → column ≡ tabulated (λ k. cond (ltb k width) (new k) (old k)) 0 n
 rewriting-done {A} {old} {new} {d} {n} {column} {i} {width} w h l =
-    ext-getD d column (tabulated t 0 n) (w .same ∙ sym (length-tabulated t 0 n))
-    (λ (k : ℕ) (g : k < length column). at k (lt-or-ge k width) ∙ sym (tabulated-at t n k d (subst (λ (m : ℕ). k < m) (w .same) g)))
+    ext-getD d column (tabulated t 0 n) (w .front .same ∙ sym (length-tabulated t 0 n))
+    (λ (k : ℕ) (g : k < length column). at k (lt-or-ge k width) ∙ sym (tabulated-at t n k d (subst (λ (m : ℕ). k < m) (w .front .same) g)))
   where
     t : ℕ → A
     t k = cond (ltb k width) (new k) (old k)
 
     at : (k : ℕ) → (k < width) ⊎ (width ≤ k) → getD column k d ≡ t k
-    at k (inl g) = w .before k (omega arith) ∙ rw (lt-ltb k width g)
+    at k (inl g) = w .front .is k (omega arith) ∙ rw (lt-ltb k width g)
     at k (inr g) = w .after k (omega arith) ∙ rw (le-ltb k width g)

@@ -1,13 +1,14 @@
--- `columns::fill_f32` meets its contract: the laws of a column that is filled from the front (`Filling`). Assumes nothing.
+-- `columns::fill_f32` meets its contract: the column is written from the front with one value (`Writing`). Assumes nothing.
+use mathlib.Core.Path.{refl}
 use Prim.Native.Nat.{_-_}
 use borrow.Author.Needs.{needs}
 use lib.ListN.{length}
-use Rattle.folds.proofs.Columns.{Filling, filling-start, filling-step, filling-done}
+use Rattle.folds.proofs.Columns.{Writing, writing-start, writing-next, writing-filled}
 use Rattle.columns.proofs.fill_f32.Statement.{statement}
 use Rattle.columns.proofs.fill_f32.Tie as tie
 
 abbrev Inv-loop : tie.InvT-loop
-Inv-loop column₀ value i₀ column i = Filling value column₀ column i
+Inv-loop column₀ value i₀ column i = Writing (λ k. value) value (length column₀) column i
 
 abbrev μ-loop : tie.MeasureT-loop
 μ-loop column₀ value i₀ column i = length column₀ - i
@@ -18,11 +19,11 @@ fill-f32-spec =
     (tie.spec
     Inv-loop
     μ-loop
-    (λ c. filling-start (c .args .value) (c .args .column .now))
+    (λ c. writing-start refl)
     (λ c. search needs)
     (λ c. search needs)
     (λ c. search needs)
     (λ c. search needs)
-    (λ c. filling-step (c .before .loop .inv) (c .loop-test .taken))
+    (λ c. writing-next _ (c .before .loop .inv) (c .loop-test .taken) refl)
     (λ c. search needs)
-    (λ c. filling-done (c .before .loop .inv) (c .loop-test .left)))
+    (λ c. writing-filled (c .before .loop .inv) (c .loop-test .left)))
