@@ -128,6 +128,10 @@ writing-all {i = i} w h = writing-done w (subst (λ (m : ℕ). m ≤ i) (w .same
 pub writing-filled : {A : Type 0} {v d : A} {n : ℕ} {column : List A} {i : ℕ} → Writing (λ k. v) d n column i → length column ≤ i → column ≡ replicate n v
 writing-filled {v = v} {n = n} w h = writing-all w h ∙ tabulated-constant (λ k. v) v (λ k. refl) 0 n
 
+-- with another column's entries
+pub writing-copied : {A : Type 0} {d : A} {l column : List A} {i : ℕ} → Writing (λ k. getD l k d) d (length l) column i → length l ≤ i → column ≡ l
+writing-copied {d = d} {l} {column} w h = ext-getD d column l (w .same) (λ k g. w .is k (omega (arith, w .same)))
+
 -- ---- entries rewritten from the front, up to a width
 
 pub record Rewriting {A : Type 0} (old new : ℕ → A) (d : A) (n : ℕ) (column : List A) (i : ℕ) : Type 0 where
