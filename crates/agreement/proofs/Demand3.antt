@@ -125,7 +125,7 @@ module _ (labels : List ℤ) (scores : List Float) (keys spare : ℕ) (q : List 
   same = eqb-true (length scores) (length labels) (both _ _ (let-in .1) .0)
 
   as-long : length (asRanked labels scores) ≡ length labels
-  as-long = length-as-ranked labels scores same (leb-true (length labels) longest (both _ _ (let-in .0) .0))
+  as-long = length-as-ranked labels scores ∙ same
 
   few : length (asRanked labels scores) ≤ longest
   few = subst (λ (n : ℕ). n ≤ longest) (sym as-long) (leb-true (length labels) longest (both _ _ (let-in .0) .0))

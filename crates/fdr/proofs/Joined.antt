@@ -11,8 +11,8 @@ use lib.IntN.{ℤ, pos}
 use lib.ListN.{length, getD, take, drop, length-map, length-replicate, getD-replicate}
 use lib.Seq.{take-at, length-take-le, length-front}
 use lib.Ieee.{Float, nan, binary32, fits, ofBits}
-use Rattle.folds.proofs.Columns.{tabulated-same, same-blank}
-use Rattle.folds.specs.Columns.{filled, tabulated}
+use Rattle.folds.proofs.Columns.{tabulated-same, same-blank, all-map, all-at}
+use Rattle.folds.specs.Columns.{filled, tabulated, All}
 use Rattle.floats.specs.Ratio.{oneIn}
 use Rattle.counting.specs.Labels.{isDecoy}
 use Rattle.counting.specs.QValues.{one, lows, targetsAtMost}
@@ -23,10 +23,11 @@ use Rattle.competition.specs.Tables.{Table, noPart}
 use Rattle.fdr.specs.declared.Names.{Names}
 use Rattle.fdr.specs.Rows.{Side, seenSides, rankedSides}
 use Rattle.fdr.specs.QValues.{ratiosFrom, sideQ, sideLabel, passing, nameOf, qOf, rowQ, rowsQ}
-use Rattle.fdr.specs.Passes.{sideKey, sideAlong, sideOf, tagged, numberOf, labelAlong, labelOf, cappedFrom, named, rowOf, All, Within, Bits, Tagged, Ratable, Ready}
-use Rattle.fdr.proofs.Keys.{AllHeld, all-at, ratios-fit, capped-held, lows-held, length-ratios, tags-bits, numbers-tagged, along-tagged, all-tagged, tagged-again, lows-capped}
+use Rattle.fdr.specs.Passes.{sideKey, sideAlong, sideOf, tagged, numberOf, labelAlong, labelOf, cappedFrom, named, rowOf, Within, Bits, Tagged, Ratable, Ready}
+use Rattle.fdr.proofs.Keys.{Held, ratios-fit, capped-held, lows-held, length-ratios, tags-bits, numbers-tagged, along-tagged, all-tagged, tagged-again, lows-capped}
 use Rattle.fdr.proofs.Naming.{name-within, named-reads, named-bits, ones-bits, length-named, allowed-within}
-use Rattle.fdr.proofs.Sides.{Listed, all-sorted, plain-sorted, seen-listed, listed-within, few-plain, sorted-sides}
+use Rattle.ranking.proofs.Sorting.{all-sorted}
+use Rattle.fdr.proofs.Sides.{Listed, plain-sorted, seen-listed, listed-within, few-plain, sorted-sides}
 
 -- ---- the ranking and the two passes over its rows
 
@@ -44,7 +45,7 @@ module _ (e : Estimator) (bins : List Float) (t : Table) (keys : List ℕ) where
   length-capped =
       length-map (ratiosFrom e bins one 0 (map (sideOf t) keys)) _ ∙ length-ratios e bins one 0 (map (sideOf t) keys) ∙ length-map keys (sideOf t)
 
-  held : AllHeld (cappedFrom e bins t one 0 keys)
+  held : All Held (cappedFrom e bins t one 0 keys)
   held = capped-held (ratiosFrom e bins one 0 (map (sideOf t) keys)) (ratios-fit e bins one 0 (map (sideOf t) keys))
 
   -- what `take_minima` asks
@@ -83,11 +84,7 @@ module _ (e : Estimator) (bins : List Float) (t : Table) (keys : List ℕ) where
 
 -- every key names a slot, so that its names are below the names' count
 doubled : (n m : ℕ) → m ≡ 2 * n → (keys : List ℕ) → All (Within n) keys → All (λ k. k % 4294967296 / 2 * 2 + 1 < m) keys
-doubled n m e [] w = tt
-doubled n m e (k ∷ ks) w = (twice (k % 4294967296 / 2) (w .0), doubled n m e ks (w .1))
-  where
-    twice : (a : ℕ) → a < n → a * 2 + 1 < m
-    twice a h = omega arith
+doubled n m e keys w = all-map (Within n) (λ k. k % 4294967296 / 2 * 2 + 1 < m) (λ k h. omega arith) keys w
 
 labels-same : (t : Table) (keys : List ℕ) → map labelOf keys ≡ map sideLabel (map (sideOf t) keys)
 labels-same t [] = refl
@@ -146,7 +143,7 @@ module _ {bins : List Float} {t : Table} {slots : List ℕ} {labels : List ℤ} 
     unfolding sideQ
     length-qs = length-lows (ratiosFrom e bins one 0 (map (sideOf t) ks)) ∙ length-ratios e bins one 0 (map (sideOf t) ks) ∙ length-map ks (sideOf t)
 
-    held-qs : AllHeld qs
+    held-qs : All Held qs
     unfolding sideQ
     held-qs = lows-held (ratiosFrom e bins one 0 (map (sideOf t) ks)) (ratios-fit e bins one 0 (map (sideOf t) ks))
 
@@ -226,7 +223,7 @@ module _ {bins : List Float} {t : Table} {slots : List ℕ} {labels : List ℤ} 
         (
           reads
               ∙ tabulated-same (length slots)
-              (λ i h. row-reads (getD slots i 0) (getD labels i (pos 0)) (all-at (λ n. eqb n noPart ≡ false → n * 2 + 1 < length column) slots slots-within i h)),
+              (λ i h. row-reads (getD slots i 0) (getD labels i (pos 0)) (all-at (λ n. eqb n noPart ≡ false → n * 2 + 1 < length column) 0 slots slots-within i h)),
           (k ∙ same-blank 0 (part₁ ++ drop rows keys₁) keys₀ (length-front keys₁ part₁ rows (r .same-keys) ∙ w .same), s ∙ same-blank 0 column spare₀ column-length),
         ),
       )

@@ -3,14 +3,16 @@ use mathlib.Core.Path.{_≡_, refl, sym, ap, ap₂, _∙_, subst}
 use mathlib.Core.Logic.{inl, inr}
 use mathlib.Core.List.{List, [], _∷_, map}
 use mathlib.Core.Bool.{Bool, true, false, not, cond}
-use Prim.Native.Nat.{ℕ, zero, suc, _+_, _*_, _/_, _%_, _<_}
-use native.Mathlib.Nat.{not-suc-le-zero, le-of-suc-le-suc}
+use Prim.Native.Nat.{ℕ, suc, _+_, _*_, _%_, _<_}
 use native.Mathlib.Omega.{arith}
 use lib.Dec.{T, not-T}
-use lib.ListN.{length, getD}
+use lib.Arith.{digits-div, digits-mod}
+use lib.ListN.{length}
 use lib.Ieee.{Float, binary32, fits, isNan, lt, le, ofBits, toBits}
 use lib.Ieee.Fits.{div-fits}
 use lib.Ieee.Bits.{cond-no, ofBits-toBits, toBits-lt, ofBits-fits}
+use Rattle.folds.specs.Columns.{All}
+use Rattle.folds.proofs.Columns.{all-mapped}
 use Rattle.floats.specs.Least.{lesser}
 use Rattle.floats.proofs.Order.{le-left, lt→not-le, lt-of-lt-of-le, lesser-either, lesser-le-left}
 use Rattle.counting.specs.QValues.{one, lowest, lows}
@@ -19,34 +21,17 @@ use Rattle.ranking.proofs.Ranks.{Fitting}
 use Rattle.kde.specs.declared.Estimator.{Estimator}
 use Rattle.fdr.specs.Rows.{Side}
 use Rattle.fdr.specs.QValues.{ratiosFrom}
-use Rattle.fdr.specs.Passes.{tagged, numberOf, All, Bits, Tagged}
+use Rattle.fdr.specs.Passes.{tagged, numberOf, Bits, Tagged}
 
 -- ---- one key
 
-pub above : (b a : ℕ) → a < 4294967296 → (b * 4294967296 + a) / 4294967296 ≡ b
-above b a h = omega arith
-
-pub below : (b a : ℕ) → a < 4294967296 → (b * 4294967296 + a) % 4294967296 ≡ a
-below b a h = omega arith
-
 pub along-lt : (k : ℕ) → k % 4294967296 < 4294967296
 along-lt k = omega arith
-
--- ---- what all keys have, one of them has
-
-pub all-at : (P : ℕ → Type 0) (l : List ℕ) → All P l → (i : ℕ) → i < length l → P (getD l i 0)
-all-at P [] w i h = absurd (not-suc-le-zero h)
-all-at P (x ∷ xs) w zero h = w .0
-all-at P (x ∷ xs) w (suc i) h = all-at P xs (w .1) i (le-of-suc-le-suc h)
 
 -- ---- numbers that can be written as bits: no NaN, and of the format
 
 abbrev pub Held : Float → Type 0
 Held q = T (not (isNan q)) × T (fits binary32 q)
-
-abbrev pub AllHeld : List Float → Type 0
-AllHeld [] = Unit {0}
-AllHeld (q ∷ qs) = Held q × AllHeld qs
 
 pub bits-small : (q : Float) → T (fits binary32 q) → toBits binary32 q < 4294967296
 bits-small q h = toBits-lt binary32 q h
@@ -76,16 +61,15 @@ unfolding ratiosFrom
 ratios-fit e bins sum targets [] = tt
 ratios-fit e bins sum targets (s ∷ ss) = (div-fits binary32 _ _, ratios-fit e bins _ _ ss)
 
-pub capped-held : (rs : List Float) → Fitting rs → AllHeld (map (lesser one) rs)
-capped-held [] w = tt
-capped-held (r ∷ rs) w = ((least-number one r one-number, lesser-fits one r one-fits (w .0)), capped-held rs (w .1))
+pub capped-held : (rs : List Float) → Fitting rs → All Held (map (lesser one) rs)
+capped-held rs w = all-mapped (λ r. T (fits binary32 r)) Held (lesser one) (λ r h. (least-number one r one-number, lesser-fits one r one-fits h)) rs w
 
 lowest-fits : (rs : List Float) → Fitting rs → T (fits binary32 (lowest rs))
 unfolding lowest
 lowest-fits [] w = one-fits
 lowest-fits (r ∷ rs) w = lesser-fits (lowest rs) r (lowest-fits rs (w .1)) (w .0)
 
-pub lows-held : (rs : List Float) → Fitting rs → AllHeld (lows rs)
+pub lows-held : (rs : List Float) → Fitting rs → All Held (lows rs)
 unfolding lows
 lows-held [] w = tt
 lows-held (r ∷ rs) w = ((lowest-number (r ∷ rs), lowest-fits (r ∷ rs) w), lows-held rs (w .1))
@@ -97,19 +81,19 @@ unfolding ratiosFrom
 length-ratios e bins sum targets [] = refl
 length-ratios e bins sum targets (s ∷ ss) = ap suc (length-ratios e bins _ _ ss)
 
-pub tags-bits : (qs : List Float) (keys : List ℕ) → AllHeld qs → All Tagged (tagged qs keys)
+pub tags-bits : (qs : List Float) (keys : List ℕ) → All Held qs → All Tagged (tagged qs keys)
 unfolding tagged
 tags-bits [] keys h = tt
 tags-bits (q ∷ qs) [] h = tt
-tags-bits (q ∷ qs) (k ∷ ks) h = (subst Bits (sym (above (toBits binary32 q) (k % 4294967296) (along-lt k))) (held-bits q (h .0)), tags-bits qs ks (h .1))
+tags-bits (q ∷ qs) (k ∷ ks) h = (subst Bits (sym (digits-div (toBits binary32 q) (along-lt k))) (held-bits q (h .0)), tags-bits qs ks (h .1))
 
 -- they can be read back
-pub numbers-tagged : (qs : List Float) (keys : List ℕ) → AllHeld qs → length qs ≡ length keys → map numberOf (tagged qs keys) ≡ qs
+pub numbers-tagged : (qs : List Float) (keys : List ℕ) → All Held qs → length qs ≡ length keys → map numberOf (tagged qs keys) ≡ qs
 unfolding tagged
 numbers-tagged [] keys h e = refl
 numbers-tagged (q ∷ qs) [] h e = absurd (omega arith)
 numbers-tagged (q ∷ qs) (k ∷ ks) h e =
-    ap₂ _∷_ (ap (ofBits binary32) (above (toBits binary32 q) (k % 4294967296) (along-lt k)) ∙ ofBits-toBits binary32 q (h .0 .1)) (numbers-tagged qs ks (h .1) (omega arith))
+    ap₂ _∷_ (ap (ofBits binary32) (digits-div (toBits binary32 q) (along-lt k)) ∙ ofBits-toBits binary32 q (h .0 .1)) (numbers-tagged qs ks (h .1) (omega arith))
 
 -- and what goes along stays
 pub along-tagged : {A : Type 0} (f : ℕ → A) (qs : List Float) (keys : List ℕ) → length qs ≡ length keys
@@ -119,13 +103,13 @@ along-tagged f [] [] e = refl
 along-tagged f [] (k ∷ ks) e = absurd (omega arith)
 along-tagged f (q ∷ qs) [] e = absurd (omega arith)
 along-tagged f (q ∷ qs) (k ∷ ks) e =
-    ap₂ _∷_ (ap f (below (toBits binary32 q) (k % 4294967296) (along-lt k))) (along-tagged f qs ks (omega arith))
+    ap₂ _∷_ (ap f (digits-mod (toBits binary32 q) (along-lt k))) (along-tagged f qs ks (omega arith))
 
 pub all-tagged : (P : ℕ → Type 0) (qs : List Float) (keys : List ℕ) → All (λ k. P (k % 4294967296)) keys → All (λ k. P (k % 4294967296)) (tagged qs keys)
 unfolding tagged
 all-tagged P [] keys w = tt
 all-tagged P (q ∷ qs) [] w = tt
-all-tagged P (q ∷ qs) (k ∷ ks) w = (subst P (sym (below (toBits binary32 q) (k % 4294967296) (along-lt k))) (w .0), all-tagged P qs ks (w .1))
+all-tagged P (q ∷ qs) (k ∷ ks) w = (subst P (sym (digits-mod (toBits binary32 q) (along-lt k))) (w .0), all-tagged P qs ks (w .1))
 
 -- nor does it matter what was written before
 pub tagged-again : (qs rs : List Float) (keys : List ℕ) → length rs ≡ length keys → tagged qs (tagged rs keys) ≡ tagged qs keys
@@ -135,7 +119,7 @@ tagged-again (q ∷ qs) [] [] e = refl
 tagged-again (q ∷ qs) [] (k ∷ ks) e = absurd (omega arith)
 tagged-again (q ∷ qs) (r ∷ rs) [] e = absurd (omega arith)
 tagged-again (q ∷ qs) (r ∷ rs) (k ∷ ks) e =
-    ap₂ (λ (a : ℕ) (l : List ℕ). (toBits binary32 q * 4294967296 + a) ∷ l) (below (toBits binary32 r) (k % 4294967296) (along-lt k)) (tagged-again qs rs ks (omega arith))
+    ap₂ (λ (a : ℕ) (l : List ℕ). (toBits binary32 q * 4294967296 + a) ∷ l) (digits-mod (toBits binary32 r) (along-lt k)) (tagged-again qs rs ks (omega arith))
 
 -- ---- a ratio above 1.0 and a NaN may stand as 1.0: the minimum starts there
 

@@ -13,13 +13,15 @@ use lib.ListN.{length, getD, take, drop, set, length-set}
 use lib.Seq.{drop-cons, drop-length, set-split, take-set-le, take-take, getD-take, drop-at, length-take-le}
 use lib.Ieee.{Float, binary32, isNan, le, ofBits, toBits}
 use mir.Val.{boolByte}
+use Rattle.folds.specs.Columns.{All}
+use Rattle.folds.proofs.Columns.{all-at}
 use Rattle.folds.proofs.Tests.{byte-most}
 use Rattle.floats.specs.Least.{lesser}
 use Rattle.floats.specs.Ratio.{oneIn}
 use Rattle.counting.specs.QValues.{lowest, lows, targetsAtMost}
 use Rattle.counting.proofs.Lowest.{lowest-number}
-use Rattle.fdr.specs.Passes.{tagged, numberOf, labelOf, All, Tagged}
-use Rattle.fdr.proofs.Keys.{all-at, least-number}
+use Rattle.fdr.specs.Passes.{tagged, numberOf, labelOf, Tagged}
+use Rattle.fdr.proofs.Keys.{least-number}
 
 pub record Minima (keys₀ : List ℕ) (i : ℕ) (least : Float) (passing : ℕ) (keys : List ℕ) : Type 0 where
   pub high : i ≤ length keys₀
@@ -52,7 +54,7 @@ minima-key keys₀ {i} {keys = keys} j w e =
 -- its number, and that the least is no NaN
 pub minima-bits : (keys₀ : List ℕ) {i : ℕ} {least : Float} {passing : ℕ} {keys : List ℕ} (j : ℕ) → Minima keys₀ i least passing keys → i ≡ j + 1 → All Tagged keys₀
     → Tagged (getD keys j 0)
-minima-bits keys₀ j w e h = subst Tagged (sym (minima-key keys₀ j w e)) (all-at Tagged keys₀ h j (omega (arith, w .high)))
+minima-bits keys₀ j w e h = subst Tagged (sym (minima-key keys₀ j w e)) (all-at Tagged 0 keys₀ h j (omega (arith, w .high)))
 
 pub minima-number : (keys₀ : List ℕ) {i : ℕ} {least : Float} {passing : ℕ} {keys : List ℕ} → Minima keys₀ i least passing keys
     → (x m : Float) → m ≡ lesser least x → T (not (isNan m))

@@ -10,13 +10,14 @@ use borrow.Author.Tests.{eqb-true, eqb-false, ltb-true}
 use lib.ListN.{length, getD, drop, set, replicate, length-set, drop-of-length-le}
 use lib.Seq.{drop-cons, getD-set-same, getD-set-other}
 use lib.Ieee.{binary32, isNan, ofBits}
+use Rattle.folds.specs.Columns.{All}
+use Rattle.folds.proofs.Columns.{all-at}
 use Rattle.folds.proofs.Tests.{both}
 use Rattle.competition.specs.Tables.{Table, noPart, allowed, allAllowed}
 use Rattle.fdr.specs.declared.Names.{Names}
 use Rattle.fdr.specs.declared.Names.the-variants.{Two, One}
 use Rattle.fdr.specs.QValues.{nameOf, qOf}
-use Rattle.fdr.specs.Passes.{sideOf, numberOf, named, All, Bits, Tagged}
-use Rattle.fdr.proofs.Keys.{all-at}
+use Rattle.fdr.specs.Passes.{sideOf, numberOf, named, Bits, Tagged}
 
 -- ---- a name's number
 
@@ -53,7 +54,7 @@ pub naming-within : (names : Names) (keys column₀ : List ℕ) {i : ℕ} {colum
     → name < length column
 naming-within names keys column₀ {i} {column} n w l h all name e =
     let k = getD keys i 0 in
-    rw (e, w .same, l) (name-within names (k % 4294967296 / 2) (eqb (k % 4294967296 % 2) 1) n (all-at (λ x. x % 4294967296 / 2 * 2 + 1 < n) keys all i h))
+    rw (e, w .same, l) (name-within names (k % 4294967296 / 2) (eqb (k % 4294967296 % 2) 1) n (all-at (λ x. x % 4294967296 / 2 * 2 + 1 < n) 0 keys all i h))
 
 pub naming-done : (names : Names) (keys column₀ : List ℕ) {i : ℕ} {column : List ℕ} → Naming names keys column₀ i column → length keys ≤ i → column ≡ named names keys column₀
 unfolding named

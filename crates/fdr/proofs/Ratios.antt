@@ -12,7 +12,8 @@ use lib.IntN.{pos}
 use lib.ListN.{length, getD, take, drop, set, length-set, drop-of-length-le}
 use lib.Seq.{drop-cons, drop-set-lt, drop-drop, getD-drop, take-all}
 use lib.Ieee.{Float, binary32, binary64, add, div, ofInt, ofBits, toBits}
-use Rattle.folds.proofs.Columns.{front-write}
+use Rattle.folds.specs.Columns.{All}
+use Rattle.folds.proofs.Columns.{front-write, all-at}
 use Rattle.floats.specs.Convert.{converted}
 use Rattle.floats.specs.Least.{lesser}
 use Rattle.kde.specs.declared.Estimator.{Estimator}
@@ -20,8 +21,7 @@ use Rattle.kde.specs.Estimate.{posteriorError}
 use Rattle.competition.specs.Tables.{Table}
 use Rattle.counting.specs.QValues.{one}
 use Rattle.fdr.specs.QValues.{errorOf, ratiosFrom}
-use Rattle.fdr.specs.Passes.{scoreAt, sideOf, plain, tagged, cappedFrom, All, Within}
-use Rattle.fdr.proofs.Keys.{all-at}
+use Rattle.fdr.specs.Passes.{scoreAt, sideOf, plain, tagged, cappedFrom, Within}
 
 pub record Summing (e : Estimator) (bins : List Float) (t : Table) (keys₀ : List ℕ) (i : ℕ) (sum : Float) (target : ℕ) (keys : List ℕ) : Type 0 where
   pub high : i ≤ length keys₀
@@ -45,7 +45,7 @@ summing-key e bins t keys₀ {i} {keys = keys} w =
 -- its slot is in the table
 pub summing-within : (e : Estimator) (bins : List Float) (t : Table) (keys₀ : List ℕ) {i : ℕ} {sum : Float} {target : ℕ} {keys : List ℕ} (n : ℕ)
     → Summing e bins t keys₀ i sum target keys → i < length keys₀ → All (Within n) keys₀ → Within n (getD keys i 0)
-summing-within e bins t keys₀ {i} n w h all = subst (Within n) (sym (summing-key e bins t keys₀ w)) (all-at (Within n) keys₀ all i h)
+summing-within e bins t keys₀ {i} n w h all = subst (Within n) (sym (summing-key e bins t keys₀ w)) (all-at (Within n) 0 keys₀ all i h)
 
 -- a target counts
 seen-one : (a targets : ℕ) → targets + (1 - a % 2) ≡ cond (eqb (a % 2) 1) targets (suc targets)

@@ -10,30 +10,19 @@ use native.Mathlib.Omega.{arith}
 use lib.Dec.{T, eqb, lit<}
 use lib.ListN.{length, getD, length-map}
 use lib.Ieee.{nan, binary32, fits}
+use Rattle.folds.specs.Columns.{All}
 use Rattle.floats.specs.TotalOrder.{orderKey}
 use Rattle.folds.proofs.Tests.{lt-or-ge}
 use Rattle.columns.specs.Refusals.{longest}
 use Rattle.ranking.specs.Ranking.{Row, ranked}
 use Rattle.ranking.specs.Keys.{insert, sorted, packed}
 use Rattle.ranking.proofs.Sorting.{insert-here, insert-past}
-use Rattle.ranking.proofs.Ranks.{Fitting, Rising, packedFrom, sorted-ranks, unpacked, Each, no-row, one-row, in-list}
+use Rattle.ranking.proofs.Ranks.{Fitting, Rising, packedFrom, sorted-ranks, unpacked, in-list}
 use Rattle.competition.specs.Tables.{Table, isSeen}
 use Rattle.fdr.specs.Rows.{Side, sidesFrom, seenSides, rankedSides}
-use Rattle.fdr.specs.Passes.{alongOf, sideKey, sideAlong, sideOf, plain, All, Within}
+use Rattle.fdr.specs.Passes.{alongOf, sideKey, sideAlong, sideOf, plain, Within}
 
 -- ---- keys in another order
-
-all-insert : (P : ℕ → Type 0) (n : ℕ) (xs : List ℕ) → P n → All P xs → All P (insert n xs)
-all-insert P n [] h w = unfold insert in (h, tt)
-all-insert P n (x ∷ xs) h w = elim (lt-or-ge x n) [
-  | inl k ↦ rw (insert-past n x xs k) (w .0, all-insert P n xs h (w .1))
-  | inr k ↦ rw (insert-here n x xs k) (h, w)
-]
-
-pub all-sorted : (P : ℕ → Type 0) (xs : List ℕ) → All P xs → All P (sorted xs)
-unfolding sorted
-all-sorted P [] w = tt
-all-sorted P (x ∷ xs) w = all-insert P x (sorted xs) (w .0) (all-sorted P xs (w .1))
 
 plain-insert : (n : ℕ) (xs : List ℕ) → plain (insert n xs) ≡ plain (n ∷ xs)
 unfolding plain
@@ -187,14 +176,14 @@ sorted-sides t short w =
     ap (λ (ks : List ℕ). map (sideOf t) (sorted ks)) (as-packed (alongAt sides) 0 sides (λ i l. ap (alongAt sides) (zero-add i)))
     ∙ ap (map (sideOf t)) (sorted-ranks (alongAt sides) 0 scores up (listed-fit t 0 hi sides w))
     ∙ map-map (sideOf t) (λ (r : Row). packed (r .score) (alongAt sides (r .place))) (ranked scores)
-    ∙ go (subst (λ (n : ℕ). Each (λ r. r .place < n) (ranked scores)) many (in-list scores))
+    ∙ go (ranked scores) (subst (λ (n : ℕ). All (λ r. r .place < n) (ranked scores)) many (in-list scores))
   where
     small : (p : ℕ) → p < length (seenSides t) → alongAt (seenSides t) p < 4294967296
     small p h = omega (arith, listed-at t 0 (length (t .forward) * 2) (seenSides t) w p h .high)
 
-    go : {rows : List Row} → Each (λ r. r .place < length (seenSides t)) rows
+    go : (rows : List Row) → All (λ r. r .place < length (seenSides t)) rows
         → map (λ r. sideOf t (packed (r .score) (alongAt (seenSides t) (r .place)))) rows ≡ map (λ r. getD (seenSides t) (r .place) none) rows
-    go no-row = refl
-    go (one-row {r = r} h v) =
-        ap₂ _∷_ (ap (sideAlong t) (unpacked (r .score) (alongAt (seenSides t) (r .place)) (small (r .place) h))
-        ∙ listed-at t 0 (length (t .forward) * 2) (seenSides t) w (r .place) h .back) (go v)
+    go [] v = refl
+    go (r ∷ rows) v =
+        ap₂ _∷_ (ap (sideAlong t) (unpacked (r .score) (alongAt (seenSides t) (r .place)) (small (r .place) (v .0)))
+        ∙ listed-at t 0 (length (t .forward) * 2) (seenSides t) w (r .place) (v .0) .back) (go rows (v .1))

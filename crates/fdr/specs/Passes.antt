@@ -7,6 +7,7 @@ use lib.Dec.{T, eqb}
 use lib.IntN.{ℤ, pos, negsuc}
 use lib.ListN.{length, getD, set}
 use lib.Ieee.{Float, nan, binary32, isNan, ofBits, toBits}
+use Rattle.folds.specs.Columns.{All}
 use Rattle.floats.specs.Least.{lesser}
 use Rattle.columns.specs.Refusals.{longest}
 use Rattle.counting.specs.Labels.{isDecoy}
@@ -75,10 +76,6 @@ abbrev pub rowOf : Names → List ℕ → ℕ → ℤ → Float
 rowOf names column slot label = cond (eqb slot noPart) one (ofBits binary32 (getD column (nameOf names slot (isDecoy label)) 0))
 
 -- ---- what passes ask
-
-abbrev pub All : (ℕ → Type 0) → List ℕ → Type 0
-All P [] = Unit {0}
-All P (x ∷ xs) = P x × All P xs
 
 -- the slot that a key names is below n
 abbrev pub Within : ℕ → ℕ → Type 0

@@ -1,7 +1,7 @@
 -- Columns that a loop writes from the front or from the back, one place a turn. Assumes nothing.
 use mathlib.Core.Path.{_≡_, refl, sym, ap, _∙_, subst}
 use mathlib.Core.Logic.{_⊎_, inl, inr}
-use mathlib.Core.List.{List, _∷_, _++_, append-assoc}
+use mathlib.Core.List.{List, [], _∷_, _++_, map, append-assoc}
 use Prim.Native.Nat.{ℕ, zero, suc, _+_, _≤_, _<_, zero-le}
 use native.Mathlib.Nat.{not-suc-le-zero, le-of-suc-le-suc, lt-of-lt-of-le, ne-of-lt, ne-of-gt, le-refl, zero-add, add-comm, add-suc, suc-add}
 use native.Mathlib.Numerals.{add-one}
@@ -13,7 +13,7 @@ use lib.Seq.{take-suc-set, getD-set-same, getD-set-other, ext-getD}
 use borrow.Author.Count.{below-more}
 use borrow.Author.Tests.{lt-ltb, le-ltb}
 use Rattle.folds.proofs.Tests.{lt-or-ge}
-use Rattle.folds.specs.Columns.{filled, tabulated}
+use Rattle.folds.specs.Columns.{filled, tabulated, All}
 
 -- columns of one length have one blank
 pub same-blank : {A : Type 0} (v : A) (c d : List A) → length c ≡ length d → filled v c ≡ filled v d
@@ -160,3 +160,23 @@ rewriting-done {A} {old} {new} {d} {n} {column} {i} {width} w h l =
     at : (k : ℕ) → (k < width) ⊎ (width ≤ k) → getD column k d ≡ t k
     at k (inl g) = w .front .is k (omega arith) ∙ rw (lt-ltb k width g)
     at k (inr g) = w .after k (omega arith) ∙ rw (le-ltb k width g)
+
+-- ---- what each element has
+
+module _ {A : Type 0} (P : A → Type 0) where
+  pub all-map : (Q : A → Type 0) → ((x : A) → P x → Q x) → (xs : List A) → All P xs → All Q xs
+  all-map Q f [] w = tt
+  all-map Q f (x ∷ xs) w = (f x (w .0), all-map Q f xs (w .1))
+
+  pub all-mapped : {B : Type 0} (Q : B → Type 0) (f : A → B) → ((x : A) → P x → Q (f x)) → (xs : List A) → All P xs → All Q (map f xs)
+  all-mapped Q f g [] w = tt
+  all-mapped Q f g (x ∷ xs) w = (g x (w .0), all-mapped Q f g xs (w .1))
+
+  pub all-append : (xs ys : List A) → All P xs → All P ys → All P (xs ++ ys)
+  all-append [] ys w v = v
+  all-append (x ∷ xs) ys w v = (w .0, all-append xs ys (w .1) v)
+
+  pub all-at : (d : A) (xs : List A) → All P xs → (i : ℕ) → i < length xs → P (getD xs i d)
+  all-at d [] w i h = absurd (not-suc-le-zero h)
+  all-at d (x ∷ xs) w zero h = w .0
+  all-at d (x ∷ xs) w (suc i) h = all-at d xs (w .1) i (le-of-suc-le-suc h)

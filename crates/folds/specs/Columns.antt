@@ -12,3 +12,8 @@ filled v column = replicate (length column) v
 unfoldable pub tabulated : {A : Type 0} → (ℕ → A) → ℕ → ℕ → List A
 tabulated f a zero = []
 tabulated f a (suc k) = f a ∷ tabulated f (suc a) k
+
+-- each element has P
+abbrev pub All : {A : Type 0} → (A → Type 0) → List A → Type 0
+All P [] = Unit {0}
+All P (x ∷ xs) = P x × All P xs

@@ -3,8 +3,8 @@
 use mathlib.Core.Path.{_≡_, refl, sym, ap, ap₂, _∙_, subst}
 use mathlib.Core.List.{List, [], _∷_, map}
 use mathlib.Core.Bool.{Bool, true, false, cond, _&&_}
-use Prim.Native.Nat.{ℕ, zero, suc, _+_, _-_, _*_, _/_, _%_, _≤_, _<_, suc-le-suc}
-use native.Mathlib.Nat.{not-suc-le-zero, le-of-suc-le-suc, zero-lt-suc, zero-add, add-zero, suc-add, add-suc}
+use Prim.Native.Nat.{ℕ, suc, _+_, _-_, _*_, _/_, _%_, _≤_, _<_, suc-le-suc}
+use native.Mathlib.Nat.{zero-lt-suc, zero-add, add-zero, suc-add, add-suc}
 use native.Mathlib.Omega.{arith}
 use borrow.Author.Tests.{leb-true, eqb-true, le-leb, lt-leb}
 use lib.Dec.{leb, eqb}
@@ -12,8 +12,8 @@ use lib.IntN.{ℤ, pos, negsuc}
 use lib.ListN.{length, getD, length-map}
 use lib.Ieee.{Float, nan, binary32}
 use Rattle.folds.proofs.Tests.{both}
-use Rattle.folds.specs.Columns.{filled, tabulated}
-use Rattle.folds.proofs.Columns.{length-tabulated, tabulated-same, same-blank, tabulated-at}
+use Rattle.folds.specs.Columns.{filled, tabulated, All}
+use Rattle.folds.proofs.Columns.{length-tabulated, tabulated-same, same-blank, tabulated-at, all-map, all-mapped, all-at}
 use Rattle.floats.specs.Convert.{converted}
 use Rattle.floats.specs.Ratio.{oneIn}
 use Rattle.floats.specs.TotalOrder.{orderKey}
@@ -26,7 +26,7 @@ use Rattle.counting.specs.QValues.{qValues, targetsAtMost}
 use Rattle.counting.proofs.QValues.{same-q, q-length}
 use Rattle.ranking.specs.Ranking.{Row, ranked}
 use Rattle.ranking.specs.Keys.{packed, sorted}
-use Rattle.ranking.proofs.Ranks.{Fitting as Fits, Rising, packedFrom, sorted-ranks, Each, no-row, one-row, in-list}
+use Rattle.ranking.proofs.Ranks.{Fitting as Fits, Rising, packedFrom, sorted-ranks, in-list}
 use Rattle.floats.proofs.Narrowed.{converted-fits}
 use Rattle.columns.specs.declared.Outcome.{Outcome}
 use Rattle.columns.specs.declared.Outcome.the-variants as outcome
@@ -66,24 +66,14 @@ key-decoy labels r =
 
 -- ---- all of them
 
-pub keyed : (labels : List ℤ) {rows : List Row} → Each (λ r. r .place ≤ longest) rows → Keyed (map (keyOf labels) rows) rows
-keyed labels no-row = no-key
-keyed labels (one-row {r = r} h w) = key (key-place labels r h) (keyed labels w)
+keyed : (labels : List ℤ) (rows : List Row) → All (λ r. r .place ≤ longest) rows → Keyed (map (keyOf labels) rows) rows
+keyed labels [] w = no-key
+keyed labels (r ∷ rows) w = key (key-place labels r (w .0)) (keyed labels rows (w .1))
 
 same-decoys : (labels : List ℤ) (rows : List Row)
     → map isDecoy (map labelOf (map (keyOf labels) rows)) ≡ map isDecoy (map (λ r. getD labels (r .place) (pos 0)) rows)
 same-decoys labels [] = refl
 same-decoys labels (r ∷ rows) = ap₂ _∷_ (key-decoy labels r) (same-decoys labels rows)
-
-pub place-below : (n : ℕ) (labels : List ℤ) {rows : List Row} → n ≤ longest + 1 → Each (λ r. r .place < n) rows → (i : ℕ) → i < length (map (keyOf labels) rows)
-    → placeOf (getD (map (keyOf labels) rows) i 0) < n
-place-below n labels l no-row i h = absurd (not-suc-le-zero h)
-place-below n labels l (one-row {r = r} g w) zero h = subst (λ (p : ℕ). p < n) (sym (key-place labels r (omega arith))) g
-place-below n labels l (one-row g w) (suc i) h = place-below n labels l w i (le-of-suc-le-suc h)
-
-loosen : (n : ℕ) {rows : List Row} → n ≤ longest → Each (λ r. r .place < n) rows → Each (λ r. r .place ≤ longest) rows
-loosen n l no-row = no-row
-loosen n l (one-row {r = r} h w) = let k : r .place ≤ longest = omega arith in one-row k (loosen n l w)
 
 -- no label matters but for being a decoy's
 same-count : (c : Float) (ls ls′ : List ℤ) (qs : List Float) → map isDecoy ls ≡ map isDecoy ls′ → targetsAtMost c ls qs ≡ targetsAtMost c ls′ qs
@@ -96,45 +86,10 @@ same-count c (l ∷ ls) (l′ ∷ ls′) (q ∷ qs) e =
     let b : isDecoy l ≡ isDecoy l′ = cc in
     rw (b, same-count c ls ls′ qs (cc))
 
--- ---- the joined pass
-
-module _ (labels : List ℤ) (scores : List Float) (same : length scores ≡ length labels) (short : length labels ≤ longest) where
-  as-many : length (map (converted binary32) scores) ≡ length labels
-  as-many = length-map scores (converted binary32) ∙ same
-
-  pub in-places : Each (λ r. r .place < length labels) (rankedRows scores)
-  unfolding rankedRows
-  in-places = subst (λ (n : ℕ). Each (λ r. r .place < n) (rankedRows scores)) as-many (in-list (map (converted binary32) scores))
-
-  pub flags-same : map isDecoy (labelsOf (map (keyOf labels) (rankedRows scores))) ≡ map isDecoy (asRanked labels scores)
-  unfolding labelsOf asRanked
-  flags-same = same-decoys labels (rankedRows scores)
-
-  pub q-same : qValues (labelsOf (map (keyOf labels) (rankedRows scores))) ≡ qValues (asRanked labels scores)
-  q-same = same-q (labelsOf (map (keyOf labels) (rankedRows scores))) (asRanked labels scores) flags-same
-
-  pub count-same : targetsAtMost (oneIn 20) (labelsOf (map (keyOf labels) (rankedRows scores))) (qValues (labelsOf (map (keyOf labels) (rankedRows scores))))
-      ≡ targetsAtMost (oneIn 20) (asRanked labels scores) (qValues (asRanked labels scores))
-  count-same =
-      same-count (oneIn 20) (labelsOf (map (keyOf labels) (rankedRows scores))) (asRanked labels scores) (qValues (labelsOf (map (keyOf labels) (rankedRows scores)))) flags-same
-      ∙ ap (targetsAtMost (oneIn 20) (asRanked labels scores)) q-same
-
-  pub length-as-ranked : length (asRanked labels scores) ≡ length labels
-  unfolding asRanked rankedRows
-  length-as-ranked = length-map (rankedRows scores) (λ r. getD labels (r .place) (pos 0)) ∙ length-ranked 0 (map (converted binary32) scores) ∙ as-many
-
-  pub column-same : (q₀ : List Float) → length q₀ ≡ length labels
-      → scattered (map (keyOf labels) (rankedRows scores)) (qValues (labelsOf (map (keyOf labels) (rankedRows scores)))) q₀ ≡ precursorQ labels scores
-  unfolding precursorQ rankedRows
-  column-same q₀ e =
-      let S = map (converted binary32) scores in
-      let Q = qValues (asRanked labels scores) in
-      ap (λ (qs : List Float). scattered (map (keyOf labels) (ranked S)) qs q₀) q-same
-      ∙ scattered-is nan S (map (keyOf labels) (ranked S)) (keyed labels (loosen (length labels) short in-places)) Q q₀
-      (q-length (asRanked labels scores) ∙ length-as-ranked ∙ sym as-many) (e ∙ sym as-many)
-      ∙ ap (tabulated (λ p. getD Q (rankOf (ranked S) p) nan) 0) as-many
-
--- ---- what `picked` leaves, from what its calls ensure
+pub length-as-ranked : (labels : List ℤ) (scores : List Float) → length (asRanked labels scores) ≡ length scores
+unfolding asRanked rankedRows
+length-as-ranked labels scores =
+    length-map (rankedRows scores) (λ r. getD labels (r .place) (pos 0)) ∙ length-ranked 0 (map (converted binary32) scores) ∙ length-map scores (converted binary32)
 
 -- ---- the keys in ascending order are those of the ranked rows
 
@@ -166,20 +121,48 @@ as-tabulated g along a (s ∷ ss) h =
     ap g (suc-add a i ∙ sym (add-suc a i)) ∙ h (suc i) (suc-le-suc l)
     ∙ ap (λ (p : ℕ). packed (converted binary32 (getD ss i nan)) (along p)) (add-suc a i ∙ sym (suc-add a i))))
 
-pub ranked-keys : (labels : List ℤ) (scores : List Float) → length scores ≤ longest
-    → sorted (tabulated (rowKey labels scores) 0 (length scores)) ≡ map (keyOf labels) (rankedRows scores)
-unfolding rankedRows
-ranked-keys labels scores l =
-    let S = map (converted binary32) scores in
-    ap sorted (as-tabulated (rowKey labels scores) (along labels) 0 scores (λ (i : ℕ) (h : i < length scores).
-    ap (λ (p : ℕ). packed (converted binary32 (getD scores p nan)) (along labels (0 + i))) (zero-add i)))
-    ∙ sorted-ranks (along labels) 0 S
-    (rising labels (0 + length S) (subst (λ (n : ℕ). n ≤ longest) (sym (zero-add (length S) ∙ length-map scores (converted binary32))) l)) (narrowed-fit scores)
+module _ (labels : List ℤ) (scores : List Float) (short : length scores ≤ longest) (keys : List ℕ)
+    (e : keys ≡ sorted (tabulated (rowKey labels scores) 0 (length scores))) where
+  many : length (map (converted binary32) scores) ≡ length scores
+  many = length-map scores (converted binary32)
 
-length-keys : (labels : List ℤ) (scores : List Float) → length scores ≡ length labels → length (map (keyOf labels) (rankedRows scores)) ≡ length labels
-unfolding rankedRows
-length-keys labels scores e =
-    length-map (rankedRows scores) (keyOf labels) ∙ length-ranked 0 (map (converted binary32) scores) ∙ length-map scores (converted binary32) ∙ e
+  ranked-keys : keys ≡ map (keyOf labels) (rankedRows scores)
+  unfolding rankedRows
+  ranked-keys =
+      e
+      ∙ ap sorted (as-tabulated (rowKey labels scores) (along labels) 0 scores (λ (i : ℕ) (h : i < length scores).
+      ap (λ (p : ℕ). packed (converted binary32 (getD scores p nan)) (along labels (0 + i))) (zero-add i)))
+      ∙ sorted-ranks (along labels) 0 (map (converted binary32) scores) (rising labels (0 + length (map (converted binary32) scores)) (omega (arith, many))) (narrowed-fit scores)
+
+  length-keys : length keys ≡ length scores
+  unfolding rankedRows
+  length-keys = ap length ranked-keys ∙ length-map (rankedRows scores) (keyOf labels) ∙ length-ranked 0 (map (converted binary32) scores) ∙ many
+
+  in-places : All (λ r. r .place < length scores) (rankedRows scores)
+  unfolding rankedRows
+  in-places = subst (λ (n : ℕ). All (λ r. r .place < n) (rankedRows scores)) many (in-list (map (converted binary32) scores))
+
+  -- what `assign_q_value` and `write_ranks` ask
+  in-column : (n : ℕ) → n ≡ length scores → (length keys ≤ longest) × ((i : ℕ) → i < length keys → placeOf (getD keys i 0) < n)
+  in-column n l = (
+    omega (arith, length-keys),
+    all-at (λ k. placeOf k < n) 0 keys
+        (rw (ranked-keys, l)
+        (all-mapped (λ r. r .place < length scores) (λ k. placeOf k < length scores) (keyOf labels) (λ r h. rw (key-place labels r (omega arith)) h) (rankedRows scores) in-places)),
+  )
+
+  -- what they write
+  in-list-order : {A : Type 0} (d : A) (xs column : List A) → length xs ≡ length scores → length column ≡ length scores
+      → scattered keys xs column ≡ tabulated (λ p. getD xs (rankOf (rankedRows scores) p) d) 0 (length scores)
+  unfolding rankedRows
+  in-list-order d xs column l m =
+      let S = map (converted binary32) scores in
+      ap (λ (ks : List ℕ). scattered ks xs column) ranked-keys
+      ∙ scattered-is d S (map (keyOf labels) (ranked S))
+      (keyed labels (ranked S) (all-map (λ r. r .place < length scores) (λ r. r .place ≤ longest) (λ r h. omega arith) (ranked S) in-places)) xs column (l ∙ sym many) (m ∙ sym many)
+      ∙ ap (tabulated (λ p. getD xs (rankOf (ranked S) p) d) 0) many
+
+-- ---- what `picked` leaves, from what its calls ensure
 
 -- what `sort` asks
 pub sortable : (labels : List ℤ) (scores : List Float) (spare keys₁ : List ℕ) → length spare ≡ length labels → keys₁ ≡ packedRows labels scores
@@ -190,40 +173,37 @@ sortable labels scores spare keys₁ e k = e ∙ sym (ap length k ∙ length-tab
 module _ (labels : List ℤ) (scores : List Float) (keys₀ spare₀ : List ℕ) (q₀ : List Float)
     (f : Fitting (length labels) (length scores) (length keys₀) (length spare₀) (length q₀)) (keys₁ : List ℕ) (e₁ : keys₁ ≡ packedRows labels scores)
     (keys₂ : List ℕ) (e₂ : keys₂ ≡ sorted keys₁) where
-  now-ranked : keys₂ ≡ map (keyOf labels) (rankedRows scores)
+  few : length scores ≤ longest
+  few = omega (arith, f .short, f .scores-fit)
+
+  are : keys₂ ≡ sorted (tabulated (rowKey labels scores) 0 (length scores))
   unfolding packedRows
-  now-ranked =
-      e₂ ∙ ap sorted (e₁ ∙ ap (tabulated (rowKey labels scores) 0) (sym (f .scores-fit)))
-      ∙ ranked-keys labels scores (subst (λ (n : ℕ). n ≤ longest) (sym (f .scores-fit)) (f .short))
+  are = rw (f .scores-fit, ← e₁) e₂
 
-  as-long-as : length keys₂ ≡ length labels
-  as-long-as = ap length now-ranked ∙ length-keys labels scores (f .scores-fit)
-
-  -- what `assign_q_value` asks
   pub assignable : (length keys₂ ≤ longest) × ((i : ℕ) → i < length keys₂ → placeOf (getD keys₂ i 0) < length q₀)
-  assignable = (
-    subst (λ (n : ℕ). n ≤ longest) (sym as-long-as) (f .short),
-    λ i h.
-        subst (λ (n : ℕ). placeOf (getD keys₂ i 0) < n) (sym (f .q-fit))
-        (subst (λ (ks : List ℕ). placeOf (getD ks i 0) < length labels) (sym now-ranked)
-        (place-below (length labels) labels (omega (arith, f .short)) (in-places labels scores (f .scores-fit) (f .short)) i
-        (subst (λ (ks : List ℕ). i < length ks) now-ranked h))),
-  )
+  assignable = in-column labels scores few keys₂ are (length q₀) (f .q-fit ∙ sym (f .scores-fit))
+
+  flags-same : map isDecoy (labelsOf keys₂) ≡ map isDecoy (asRanked labels scores)
+  unfolding labelsOf asRanked
+  flags-same = rw (ranked-keys labels scores few keys₂ are) (same-decoys labels (rankedRows scores))
+
+  q-same : qValues (labelsOf keys₂) ≡ qValues (asRanked labels scores)
+  q-same = same-q (labelsOf keys₂) (asRanked labels scores) flags-same
 
   pub picked-all : (count : ℕ) → count ≡ targetsAtMost (oneIn 20) (labelsOf keys₂) (qValues (labelsOf keys₂))
       → (q₁ : List Float) → q₁ ≡ scattered keys₂ (qValues (labelsOf keys₂)) q₀
       → (spare₁ : List ℕ) → length spare₁ ≡ length spare₀ → (keys₃ spare₂ : List ℕ) → keys₃ ≡ filled 0 keys₂ → spare₂ ≡ filled 0 spare₁
       → (count ≡ targetsAtMost (oneIn 20) (asRanked labels scores) (qValues (asRanked labels scores)))
       × ((q₁ ≡ precursorQ labels scores) × ((keys₃ ≡ filled 0 keys₀) × (spare₂ ≡ filled 0 spare₀)))
+  unfolding precursorQ
   picked-all count c q₁ d spare₁ l keys₃ spare₂ k p = (
-    c
-        ∙ ap (λ (ks : List ℕ). targetsAtMost (oneIn 20) (labelsOf ks) (qValues (labelsOf ks))) now-ranked
-        ∙ count-same labels scores (f .scores-fit) (f .short),
+    c ∙ rw q-same (same-count (oneIn 20) (labelsOf keys₂) (asRanked labels scores) (qValues (asRanked labels scores)) flags-same),
     (
       d
-          ∙ ap (λ (ks : List ℕ). scattered ks (qValues (labelsOf ks)) q₀) now-ranked
-          ∙ column-same labels scores (f .scores-fit) (f .short) q₀ (f .q-fit),
-      (k ∙ same-blank 0 keys₂ keys₀ (as-long-as ∙ sym (f .keys-fit)), p ∙ same-blank 0 spare₁ spare₀ l),
+          ∙ rw (q-same, ← f .scores-fit)
+          (in-list-order labels scores few keys₂ are nan (qValues (asRanked labels scores)) q₀ (q-length (asRanked labels scores) ∙ length-as-ranked labels scores)
+          (f .q-fit ∙ sym (f .scores-fit))),
+      (k ∙ same-blank 0 keys₂ keys₀ (length-keys labels scores few keys₂ are ∙ f .scores-fit ∙ sym (f .keys-fit)), p ∙ same-blank 0 spare₁ spare₀ l),
     ),
   )
 
@@ -232,51 +212,30 @@ module _ (labels : List ℤ) (scores : List Float) (keys₀ spare₀ : List ℕ)
 module _ (scores : List Float) (keys₀ spare₀ ranks₀ : List ℕ)
     (f : Fitting (length scores) (length scores) (length keys₀) (length spare₀) (length ranks₀)) (keys₁ : List ℕ) (e₁ : keys₁ ≡ packedScores scores)
     (keys₂ : List ℕ) (e₂ : keys₂ ≡ sorted keys₁) where
-  ranked-now : keys₂ ≡ map (keyOf []) (rankedRows scores)
+  ranks-are : keys₂ ≡ sorted (tabulated (rowKey [] scores) 0 (length scores))
   unfolding packedScores
-  ranked-now = e₂ ∙ ap sorted e₁ ∙ ranked-keys [] scores (f .short)
+  ranks-are = e₂ ∙ ap sorted e₁
 
-  as-many-keys : length keys₂ ≡ length scores
-  unfolding rankedRows
-  as-many-keys =
-      ap length ranked-now ∙ length-map (rankedRows scores) (keyOf []) ∙ length-ranked 0 (map (converted binary32) scores) ∙ length-map scores (converted binary32)
-
-  own-places : Each (λ r. r .place < length scores) (rankedRows scores)
-  unfolding rankedRows
-  own-places = subst (λ (n : ℕ). Each (λ r. r .place < n) (rankedRows scores)) (length-map scores (converted binary32)) (in-list (map (converted binary32) scores))
-
-  -- what `write_ranks` asks
   pub writable : (length keys₂ ≤ longest) × ((i : ℕ) → i < length keys₂ → placeOf (getD keys₂ i 0) < length ranks₀)
-  writable = (
-    subst (λ (n : ℕ). n ≤ longest) (sym as-many-keys) (f .short),
-    λ i h.
-        subst (λ (n : ℕ). placeOf (getD keys₂ i 0) < n) (sym (f .q-fit))
-        (subst (λ (ks : List ℕ). placeOf (getD ks i 0) < length scores) (sym ranked-now)
-        (place-below (length scores) [] (omega (arith, f .short)) own-places i (subst (λ (ks : List ℕ). i < length ks) ranked-now h))),
-  )
+  writable = in-column [] scores (f .short) keys₂ ranks-are (length ranks₀) (f .q-fit)
 
   ranks-same : (ranks : List ℕ) → ranks ≡ scattered keys₂ (tabulated suc 0 (length keys₂)) ranks₀ → ranks ≡ precursorRanks scores
   unfolding precursorRanks rankedRows
   ranks-same ranks e =
-      let S = map (converted binary32) scores in
       let n = length scores in
-      let m : length S ≡ n = length-map scores (converted binary32) in
-      let xs = tabulated suc 0 n in
+      let m : length (map (converted binary32) scores) ≡ n = length-map scores (converted binary32) in
       e
-      ∙ ap (λ (k : ℕ). scattered keys₂ (tabulated suc 0 k) ranks₀) as-many-keys
-      ∙ ap (λ (ks : List ℕ). scattered ks xs ranks₀) ranked-now
-      ∙ scattered-is 0 S (map (keyOf []) (ranked S)) (keyed [] (loosen n (f .short) own-places)) xs ranks₀ (length-tabulated suc 0 n ∙ sym m) (f .q-fit ∙ sym m)
-      ∙ ap (tabulated (λ p. getD xs (rankOf (ranked S) p) 0) 0) m
+      ∙ ap (λ (k : ℕ). scattered keys₂ (tabulated suc 0 k) ranks₀) (length-keys [] scores (f .short) keys₂ ranks-are)
+      ∙ in-list-order [] scores (f .short) keys₂ ranks-are 0 (tabulated suc 0 n) ranks₀ (length-tabulated suc 0 n) (f .q-fit)
       ∙ tabulated-same n
-      (λ (i : ℕ) (h : i < n).
-      let r : rankOf (ranked S) i < n = subst (λ (k : ℕ). rankOf (ranked S) i < k) m (has-row S i (subst (λ (k : ℕ). i < k) (sym m) h)) in
-      tabulated-at suc n (rankOf (ranked S) i) 0 r)
+      (λ (i : ℕ) (h : i < n). tabulated-at suc n (rankOf (rankedRows scores) i) 0
+      (subst (λ (k : ℕ). rankOf (rankedRows scores) i < k) m (has-row (map (converted binary32) scores) i (omega arith))))
 
   pub ranks-all : (ranks : List ℕ) → ranks ≡ scattered keys₂ (tabulated suc 0 (length keys₂)) ranks₀ → (spare₁ : List ℕ) → length spare₁ ≡ length spare₀
       → (keys₃ spare₂ : List ℕ) → keys₃ ≡ filled 0 keys₂ → spare₂ ≡ filled 0 spare₁
       → (ranks ≡ precursorRanks scores) × ((keys₃ ≡ filled 0 keys₀) × (spare₂ ≡ filled 0 spare₀))
   ranks-all ranks d spare₁ l keys₃ spare₂ k p =
-      (ranks-same ranks d, (k ∙ same-blank 0 keys₂ keys₀ (as-many-keys ∙ sym (f .keys-fit)), p ∙ same-blank 0 spare₁ spare₀ l))
+      (ranks-same ranks d, (k ∙ same-blank 0 keys₂ keys₀ (length-keys [] scores (f .short) keys₂ ranks-are ∙ sym (f .keys-fit)), p ∙ same-blank 0 spare₁ spare₀ l))
 
 pub sortable-scores : (scores : List Float) (spare keys₁ : List ℕ) → length spare ≡ length scores → keys₁ ≡ packedScores scores → length spare ≡ length keys₁
 unfolding packedScores

@@ -8,10 +8,10 @@ use lib.Dec.{T, eqb}
 use lib.ListN.{length, getD}
 use lib.Ieee.{binary32, ofBits}
 use lib.Ieee.Bits.{nanBits-is}
+use Rattle.folds.proofs.Columns.{all-at}
 use Rattle.counting.proofs.Tally.{label-test}
 use Rattle.fdr.specs.QValues.{nameOf}
 use Rattle.fdr.specs.Passes.{Bits}
-use Rattle.fdr.proofs.Keys.{all-at}
 use Rattle.fdr.proofs.Naming.{name-within}
 use Rattle.fdr.proofs.row_q.Statement.{statement}
 use Rattle.fdr.proofs.row_q.Tie as tie
@@ -26,7 +26,7 @@ within c =
     subst (λ (n : ℕ). n < length (s .args .column .now)) (sym (c .name-of .ensures)) (name-within (s .args .names) (s .args .slot) _ _ (s .pre .1 (part c)))
 
 bits : (c : tie.After-name-of) → Bits (getD (c .before .before .before .args .column .now) (c .name-of .result) 0)
-bits c = all-at Bits (c .before .before .before .args .column .now) (c .before .before .before .pre .0) (c .name-of .result) (within c)
+bits c = all-at Bits 0 (c .before .before .before .args .column .now) (c .before .before .before .pre .0) (c .name-of .result) (within c)
 
 returns : tie.Need-returns
 returns c = rw (eq-eqb (c .before .before .args .slot) 4294967295 (c .if1 .taken))

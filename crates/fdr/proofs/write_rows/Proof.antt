@@ -8,9 +8,8 @@ use lib.Dec.{eqb}
 use lib.IntN.{pos}
 use lib.ListN.{length, getD}
 use lib.Ieee.{nan}
-use Rattle.folds.proofs.Columns.{Writing, writing-start, writing-step, writing-done}
+use Rattle.folds.proofs.Columns.{Writing, writing-start, writing-step, writing-done, all-at}
 use Rattle.fdr.specs.Passes.{rowOf}
-use Rattle.fdr.proofs.Keys.{all-at}
 use borrow.Author.Needs.{needs}
 use Rattle.fdr.proofs.write_rows.Statement.{statement}
 use Rattle.fdr.proofs.write_rows.Tie as tie
@@ -27,7 +26,7 @@ loop-holds c = writing-start (c .before .before .before .pre .1 .1)
 row-q-requires : tie.Need-row-q-requires Inv-loop μ-loop
 row-q-requires c κs =
     let s = c .before .before .before .before .before .before .before in
-    (s .pre .0 .0, all-at (λ n. eqb n 4294967295 ≡ false → n * 2 + 1 < length (s .args .column .now)) (s .args .slots .now) (s .pre .0 .1) (c .before .before .before .loop .i) (search needs))
+    (s .pre .0 .0, all-at (λ n. eqb n 4294967295 ≡ false → n * 2 + 1 < length (s .args .column .now)) 0 (s .args .slots .now) (s .pre .0 .1) (c .before .before .before .loop .i) (search needs))
 
 loop-again : tie.Need-loop-again Inv-loop μ-loop
 loop-again c =
