@@ -1,15 +1,18 @@
 -- Decoys and targets up to a row. Each row adds one to the one or the other, by its label, so together they are the row's number.
 -- Assumes nothing.
 use mathlib.Core.Path.{_≡_, refl, ap, _∙_}
+use mathlib.Core.Logic.{_⊎_, inl, inr}
 use mathlib.Core.List.{List, [], _∷_, map}
-use mathlib.Core.Bool.{Bool, true, false, cond}
-use Prim.Native.Nat.{ℕ, zero, suc, _+_, _<_, min}
-use native.Mathlib.Nat.{not-suc-le-zero, le-of-suc-le-suc}
+use mathlib.Core.Bool.{Bool, true, false, cond, _&&_}
+use Prim.Native.Nat.{ℕ, zero, suc, _+_, _-_, _%_, _<_, min}
+use native.Mathlib.Nat.{not-suc-le-zero, le-of-suc-le-suc, add-zero, eq-zero-or-pos}
 use native.Mathlib.Numerals.{add-one}
 use native.Mathlib.Omega.{arith}
+use lib.Dec.{eqb}
 use lib.IntN.{ℤ}
 use lib.ListN.{length, take, getD, length-take}
-use Rattle.counting.specs.Labels.{isDecoy, decoys, targets}
+use mir.Val.{boolByte}
+use Rattle.counting.specs.Labels.{isDecoy, decoys, targets, bitLabel}
 
 decoys-suc : (labels : List ℤ) (i : ℕ) (d : ℤ) → i < length labels
     → decoys (take (suc i) labels) ≡ decoys (take i labels) + cond (isDecoy (getD labels i d)) 1 0
@@ -74,3 +77,19 @@ same-decoys (l ∷ ls) (l′ ∷ ls′) e (suc row) =
 pub same-targets : (ls ls′ : List ℤ) → map isDecoy ls ≡ map isDecoy ls′ → (row : ℕ) → targets (take row ls) ≡ targets (take row ls′)
 same-targets ls ls′ e row =
     omega (arith, row-counts row ls, row-counts row ls′, same-decoys ls ls′ e row, same-length ls ls′ e)
+
+-- ---- labels that are last bits
+
+even-or-odd : (n : ℕ) → (n % 2 ≡ 0) ⊎ (n % 2 ≡ 1)
+even-or-odd n = elim (eq-zero-or-pos (n % 2)) [ inl e ↦ inl e | inr p ↦ inr (omega arith) ]
+
+pub bit-decoy : (key : ℕ) → cond (isDecoy (bitLabel key)) 1 0 ≡ key % 2
+bit-decoy key = elim (even-or-odd key) [ inl e ↦ rw e | inr e ↦ rw e ]
+
+pub bit-target : (key : ℕ) → cond (isDecoy (bitLabel key)) 0 1 ≡ 1 - key % 2
+bit-target key = elim (even-or-odd key) [ inl e ↦ rw e | inr e ↦ rw e ]
+
+-- a target that meets a test counts
+pub pass-one : (key rest : ℕ) (b : Bool) → rest + boolByte (b && eqb (key % 2) 0) ≡ cond (isDecoy (bitLabel key)) rest (cond b (suc rest) rest)
+pass-one key rest true = elim (even-or-odd key) [ inl e ↦ rw e (add-one rest) | inr e ↦ rw e (add-zero rest) ]
+pass-one key rest false = elim (even-or-odd key) [ inl e ↦ rw e (add-zero rest) | inr e ↦ rw e (add-zero rest) ]

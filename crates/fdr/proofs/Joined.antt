@@ -14,7 +14,7 @@ use lib.Ieee.{Float, nan, binary32, fits, ofBits}
 use Rattle.folds.proofs.Columns.{tabulated-same, same-blank, all-map, all-at}
 use Rattle.folds.specs.Columns.{filled, tabulated, All}
 use Rattle.floats.specs.Ratio.{oneIn}
-use Rattle.counting.specs.Labels.{isDecoy}
+use Rattle.counting.specs.Labels.{isDecoy, bitLabel}
 use Rattle.counting.specs.QValues.{one, lows, targetsAtMost}
 use Rattle.counting.proofs.Lowest.{length-lows}
 use Rattle.ranking.specs.Keys.{sorted}
@@ -23,7 +23,7 @@ use Rattle.competition.specs.Tables.{Table, noPart}
 use Rattle.fdr.specs.declared.Names.{Names}
 use Rattle.fdr.specs.Rows.{Side, seenSides, rankedSides}
 use Rattle.fdr.specs.QValues.{ratiosFrom, sideQ, sideLabel, passing, nameOf, qOf, rowQ, rowsQ}
-use Rattle.fdr.specs.Passes.{sideKey, sideAlong, sideOf, tagged, numberOf, labelAlong, labelOf, cappedFrom, named, rowOf, Within, Bits, Tagged, Ratable, Ready}
+use Rattle.fdr.specs.Passes.{sideKey, sideAlong, sideOf, tagged, numberOf, labelOf, cappedFrom, named, rowOf, Within, Bits, Tagged, Ratable, Ready}
 use Rattle.fdr.proofs.Keys.{Held, ratios-fit, capped-held, lows-held, length-ratios, tags-bits, numbers-tagged, along-tagged, all-tagged, tagged-again, lows-capped}
 use Rattle.fdr.proofs.Naming.{name-within, named-reads, named-bits, ones-bits, length-named, allowed-within}
 use Rattle.ranking.proofs.Sorting.{all-sorted}
@@ -65,7 +65,7 @@ module _ (e : Estimator) (bins : List Float) (t : Table) (keys : List ℕ) where
       → (count ≡ targetsAtMost (oneIn 100) (map labelOf keys) (sideQ e bins (map (sideOf t) keys))) × (keys₃ ≡ tagged (sideQ e bins (map (sideOf t) keys)) keys)
   rank-all keys₂ k count keys₃ c m = (
     c
-        ∙ ap₂ (targetsAtMost (oneIn 100)) (ap (map labelOf) k ∙ along-tagged labelAlong (cappedFrom e bins t one 0 keys) keys length-capped) (minima-are keys₂ k),
+        ∙ ap₂ (targetsAtMost (oneIn 100)) (ap (map labelOf) k ∙ along-tagged bitLabel (cappedFrom e bins t one 0 keys) keys length-capped) (minima-are keys₂ k),
     m
         ∙ ap₂ tagged (minima-are keys₂ k) k
         ∙ tagged-again (sideQ e bins (map (sideOf t) keys)) (cappedFrom e bins t one 0 keys) keys length-capped,

@@ -1,14 +1,12 @@
 -- The pass from the last row up: the keys from i on hold the least number from their row on, and the count is of these rows. Assumes nothing.
 use mathlib.Core.Path.{_≡_, refl, sym, ap, ap₂, _∙_, subst}
 use mathlib.Core.List.{List, [], _∷_, map}
-use mathlib.Core.Bool.{Bool, true, false, not, cond, _&&_}
+use mathlib.Core.Bool.{not, cond, _&&_}
 use Prim.Native.Nat.{ℕ, suc, _+_, _*_, _%_, _≤_, _<_}
-use native.Mathlib.Nat.{le-refl, add-zero}
+use native.Mathlib.Nat.{le-refl}
 use native.Mathlib.Numerals.{add-one}
 use native.Mathlib.Omega.{arith}
 use lib.Dec.{T, eqb}
-use borrow.Author.Tests.{eqb-true, eqb-false, eq-eqb, ne-eqb}
-use lib.IntN.{ℤ, pos, negsuc}
 use lib.ListN.{length, getD, take, drop, set, length-set}
 use lib.Seq.{drop-cons, drop-length, set-split, take-set-le, take-take, getD-take, drop-at, length-take-le}
 use lib.Ieee.{Float, binary32, isNan, le, ofBits, toBits}
@@ -18,6 +16,8 @@ use Rattle.folds.proofs.Columns.{all-at}
 use Rattle.folds.proofs.Tests.{byte-most}
 use Rattle.floats.specs.Least.{lesser}
 use Rattle.floats.specs.Ratio.{oneIn}
+use Rattle.counting.specs.Labels.{isDecoy}
+use Rattle.counting.proofs.Labels.{pass-one}
 use Rattle.counting.specs.QValues.{lowest, lows, targetsAtMost}
 use Rattle.counting.proofs.Lowest.{lowest-number}
 use Rattle.fdr.specs.Passes.{tagged, numberOf, labelOf, Tagged}
@@ -62,30 +62,10 @@ minima-number keys₀ {i} {least} w x m e =
     let n : T (not (isNan least)) = rw (w .least-is) (lowest-number (map numberOf (drop i keys₀))) in
     rw e (least-number least x n)
 
--- a target whose number is low enough counts
-pass-one : (a rest : ℕ) (b : Bool) → rest + boolByte (b && eqb (a % 2) 0) ≡ cond (eqb (a % 2) 1) rest (cond b (suc rest) rest)
-pass-one a rest b = go (eqb (a % 2) 1) b (eqb-true (a % 2) 1) (eqb-false (a % 2) 1)
-  where
-    go : (d b : Bool) → (d ≡ true → a % 2 ≡ 1) → (d ≡ false → a % 2 ≡ 1 → ⊥) → rest + boolByte (b && eqb (a % 2) 0) ≡ cond d rest (cond b (suc rest) rest)
-    go true true h n = let o = h refl in ap (λ (t : Bool). rest + boolByte t) (ne-eqb (a % 2) 0 (λ (z : a % 2 ≡ 0). omega arith)) ∙ add-zero rest
-    go true false h n = add-zero rest
-    go false true h n = let o = n refl in ap (λ (t : Bool). rest + boolByte t) (eq-eqb (a % 2) 0 (omega arith)) ∙ add-one rest
-    go false false h n = add-zero rest
-
--- the label that a key has, as the count reads it
-count-cons : (k : ℕ) (q c : Float) (ls : List ℤ) (qs : List Float)
-    → targetsAtMost c (labelOf k ∷ ls) (q ∷ qs) ≡ (let rest = targetsAtMost c ls qs in cond (eqb (k % 4294967296 % 2) 1) rest (cond (le q c) (suc rest) rest))
-unfolding targetsAtMost
-count-cons k q c ls qs = go (eqb (k % 4294967296 % 2) 1)
-  where
-    go : (d : Bool) → targetsAtMost c (cond d (negsuc 0) (pos 0) ∷ ls) (q ∷ qs) ≡ (let rest = targetsAtMost c ls qs in cond d rest (cond (le q c) (suc rest) rest))
-    go true = refl
-    go false = refl
-
 pub minima-step : (keys₀ : List ℕ) {i : ℕ} {least : Float} {passing : ℕ} {keys : List ℕ} (j : ℕ) → Minima keys₀ i least passing keys → i ≡ j + 1
     → (m c : Float) (v : ℕ) → m ≡ lesser least (numberOf (getD keys j 0)) → c ≡ oneIn 100 → v ≡ toBits binary32 m * 4294967296 + getD keys j 0 % 4294967296
     → Minima keys₀ j m (passing + boolByte (le m c && eqb (getD keys j 0 % 4294967296 % 2) 0)) (set keys j v)
-unfolding lowest lows tagged
+unfolding lowest lows targetsAtMost tagged
 minima-step keys₀ {i} {least} {passing} {keys} j w e m c v m-is c-is v-is =
     let k = getD keys₀ j 0 in
     let rest = drop (suc j) keys₀ in
@@ -105,9 +85,8 @@ minima-step keys₀ {i} {least} {passing} {keys} j w e m c v m-is c-is v-is =
       front = take-set-le j keys j v (le-refl j) ∙ sym (take-take j i keys (omega arith)) ∙ ap (take j) (w .front) ∙ take-take j i keys₀ (omega arith);
       least-is = low ∙ ap (λ (ks : List ℕ). lowest (map numberOf ks)) (sym split);
       count-is = pass-one (getD keys j 0 % 4294967296) passing (le m c)
-          ∙ ap₂ (λ (x : ℕ) (y : Float). cond (eqb (x % 4294967296 % 2) 1) passing (cond (le m y) (suc passing) passing)) key c-is
-          ∙ ap₂ (λ (n : ℕ) (x : Float). cond (eqb (k % 4294967296 % 2) 1) n (cond (le x (oneIn 100)) (suc n) n)) count low
-          ∙ sym (count-cons k (lowest (map numberOf (k ∷ rest))) (oneIn 100) (map labelOf rest) (lows (map numberOf rest)))
+          ∙ ap₂ (λ (x : ℕ) (y : Float). cond (isDecoy (labelOf x)) passing (cond (le m y) (suc passing) passing)) key c-is
+          ∙ ap₂ (λ (n : ℕ) (x : Float). cond (isDecoy (labelOf k)) n (cond (le x (oneIn 100)) (suc n) n)) count low
           ∙ ap (λ (ks : List ℕ). targetsAtMost (oneIn 100) (map labelOf ks) (lows (map numberOf ks))) (sym split);
       keys-are = ap (drop j) (set-split keys j v h′)
           ∙ drop-at (take j keys) (v ∷ drop (suc j) keys) j (length-take-le j keys (omega arith))

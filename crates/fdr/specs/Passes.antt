@@ -4,13 +4,13 @@ use mathlib.Core.List.{List, [], _∷_, map}
 use mathlib.Core.Bool.{true, not, cond}
 use Prim.Native.Nat.{ℕ, _+_, _-_, _*_, _/_, _%_, _≤_, _<_}
 use lib.Dec.{T, eqb}
-use lib.IntN.{ℤ, pos, negsuc}
+use lib.IntN.{ℤ}
 use lib.ListN.{length, getD, set}
 use lib.Ieee.{Float, nan, binary32, isNan, ofBits, toBits}
 use Rattle.folds.specs.Columns.{All}
 use Rattle.floats.specs.Least.{lesser}
 use Rattle.columns.specs.Refusals.{longest}
-use Rattle.counting.specs.Labels.{isDecoy}
+use Rattle.counting.specs.Labels.{isDecoy, bitLabel}
 use Rattle.ranking.specs.Keys.{packed}
 use Rattle.kde.specs.declared.Estimator.{Estimator}
 use Rattle.competition.specs.Tables.{Table, noPart, allAllowed}
@@ -54,11 +54,8 @@ tagged (q ∷ qs) (k ∷ ks) = (toBits binary32 q * 4294967296 + k % 4294967296)
 abbrev pub numberOf : ℕ → Float
 numberOf key = ofBits binary32 (key / 4294967296)
 
-abbrev pub labelAlong : ℕ → ℤ
-labelAlong along = cond (eqb (along % 2) 1) (negsuc 0) (pos 0)
-
 abbrev pub labelOf : ℕ → ℤ
-labelOf key = labelAlong (key % 4294967296)
+labelOf key = bitLabel (key % 4294967296)
 
 -- the ratios of the keys' sides, from a sum and a count on; a ratio above 1.0 and a NaN stand as 1.0, and a minimum that starts there comes out the same
 abbrev pub cappedFrom : Estimator → List Float → Table → Float → ℕ → List ℕ → List Float

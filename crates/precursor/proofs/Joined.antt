@@ -21,7 +21,7 @@ use Rattle.columns.specs.Refusals.{longest}
 use Rattle.columns.specs.declared.Counted.{Counted}
 use Rattle.columns.specs.declared.Counted.the-variants.{Passing, Refused}
 use Rattle.columns.specs.declared.Refusal.the-variants.{TooLong, WrongLength}
-use Rattle.counting.specs.Labels.{isDecoy}
+use Rattle.counting.specs.Labels.{isDecoy, bitLabel}
 use Rattle.counting.specs.QValues.{qValues, targetsAtMost}
 use Rattle.counting.proofs.QValues.{same-q, q-length}
 use Rattle.ranking.specs.Ranking.{Row, ranked}
@@ -31,7 +31,7 @@ use Rattle.floats.proofs.Narrowed.{converted-fits}
 use Rattle.columns.specs.declared.Outcome.{Outcome}
 use Rattle.columns.specs.declared.Outcome.the-variants as outcome
 use Rattle.precursor.specs.Precursors.{rankedRows, asRanked, rankOf, precursorQ, Fitting, asked, accepts, precursorAnswer, precursorColumn, precursorRanks, ranksAnswer, ranksColumn}
-use Rattle.precursor.specs.Packed.{along, placeOf, labelOf, labelsOf, rowKey, packedRows, packedScores, scattered}
+use Rattle.precursor.specs.Packed.{along, placeOf, labelsOf, rowKey, packedRows, packedScores, scattered}
 use Rattle.precursor.proofs.Places.{Keyed, no-key, key, length-ranked, has-row, scattered-is}
 
 -- the key of a ranked row
@@ -55,7 +55,7 @@ key-place labels r h =
     let d = isDecoy (getD labels (r .place) (pos 0)) in
     place-in (4294967295 - orderKey binary32 (r .score)) (r .place) (cond d 1 0) h (small d)
 
-key-decoy : (labels : List ℤ) (r : Row) → isDecoy (labelOf (keyOf labels r)) ≡ isDecoy (getD labels (r .place) (pos 0))
+key-decoy : (labels : List ℤ) (r : Row) → isDecoy (bitLabel (keyOf labels r)) ≡ isDecoy (getD labels (r .place) (pos 0))
 key-decoy labels r =
     let d = isDecoy (getD labels (r .place) (pos 0)) in
     ap (λ (n : ℕ). isDecoy (cond (eqb n 1) (negsuc 0) (pos 0))) (flag-in (4294967295 - orderKey binary32 (r .score)) (r .place) (cond d 1 0) (small d)) ∙ go d
@@ -71,7 +71,7 @@ keyed labels [] w = no-key
 keyed labels (r ∷ rows) w = key (key-place labels r (w .0)) (keyed labels rows (w .1))
 
 same-decoys : (labels : List ℤ) (rows : List Row)
-    → map isDecoy (map labelOf (map (keyOf labels) rows)) ≡ map isDecoy (map (λ r. getD labels (r .place) (pos 0)) rows)
+    → map isDecoy (map bitLabel (map (keyOf labels) rows)) ≡ map isDecoy (map (λ r. getD labels (r .place) (pos 0)) rows)
 same-decoys labels [] = refl
 same-decoys labels (r ∷ rows) = ap₂ _∷_ (key-decoy labels r) (same-decoys labels rows)
 

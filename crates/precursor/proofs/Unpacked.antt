@@ -2,15 +2,13 @@
 -- Counts up to row i are taken down one row a turn, and the ratio at a row is theirs. Assumes nothing.
 use mathlib.Core.Path.{_≡_, refl, sym, ap, ap₂, _∙_, subst}
 use mathlib.Core.List.{List, []}
-use mathlib.Core.Logic.{inl, inr}
-use mathlib.Core.Bool.{Bool, true, false, cond, _&&_}
+use mathlib.Core.Bool.{cond, _&&_}
 use Prim.Native.Nat.{ℕ, suc, _+_, _-_, _%_, _≤_, _<_, min, zero-le}
-use native.Mathlib.Nat.{le-refl, add-zero, eq-zero-or-pos}
+use native.Mathlib.Nat.{le-refl}
 use native.Mathlib.Numerals.{add-one}
 use native.Mathlib.Omega.{arith}
-use borrow.Author.Tests.{eqb-true, eqb-false, eq-eqb, ne-eqb}
 use lib.Dec.{eqb}
-use lib.IntN.{ℤ, pos, negsuc}
+use lib.IntN.{ℤ, pos}
 use lib.ListN.{length, getD, take, drop, set, length-map, length-set, List·getD-map}
 use lib.Seq.{drop-cons, take-length, take-all, drop-length}
 use lib.Ieee.{Float, nan, binary32, le, ofBits}
@@ -18,39 +16,22 @@ use mir.Val.{boolByte}
 use Rattle.folds.proofs.Tests.{byte-most}
 use Rattle.floats.specs.Least.{lesser}
 use Rattle.floats.specs.Ratio.{oneIn}
-use Rattle.counting.specs.Labels.{isDecoy, decoys, targets}
+use Rattle.counting.specs.Labels.{isDecoy, decoys, targets, bitLabel}
 use Rattle.counting.specs.QValues.{ratio, ratioAt, ratios, lowest, qValues, targetsAtMost}
-use Rattle.counting.proofs.Labels.{decoys-next, targets-next, row-counts}
+use Rattle.counting.proofs.Labels.{decoys-next, targets-next, row-counts, bit-decoy, bit-target, pass-one}
 use Rattle.counting.proofs.Lowest.{lows-at}
 use Rattle.counting.proofs.QValues.{length-ratios, ratios-at, q-length}
-use Rattle.precursor.specs.Packed.{placeOf, labelOf, labelsOf, scattered}
+use Rattle.precursor.specs.Packed.{placeOf, labelsOf, scattered}
 
 -- ---- what a key says of its row
 
-parity : (k : ℕ) → (k % 2 ≡ 1 → ⊥) → k % 2 ≡ 0
-parity k h = elim (eq-zero-or-pos (k % 2)) [ inl e ↦ e | inr p ↦ absurd (h (omega arith)) ]
-
-label-flag : (k : ℕ) → cond (isDecoy (labelOf k)) 1 0 ≡ k % 2
-label-flag k = go (eqb (k % 2) 1) (eqb-true (k % 2) 1) (eqb-false (k % 2) 1)
-  where
-    go : (b : Bool) → (b ≡ true → k % 2 ≡ 1) → (b ≡ false → k % 2 ≡ 1 → ⊥) → cond (isDecoy (cond b (negsuc 0) (pos 0))) 1 0 ≡ k % 2
-    go true h n = sym (h refl)
-    go false h n = sym (parity k (n refl))
-
-label-plain : (k : ℕ) → cond (isDecoy (labelOf k)) 0 1 ≡ 1 - k % 2
-label-plain k = go (isDecoy (labelOf k)) (label-flag k)
-  where
-    go : (b : Bool) → cond b 1 0 ≡ k % 2 → cond b 0 1 ≡ 1 - k % 2
-    go true e = omega arith
-    go false e = omega arith
-
 pub length-labels : (keys : List ℕ) → length (labelsOf keys) ≡ length keys
 unfolding labelsOf
-length-labels keys = length-map keys labelOf
+length-labels keys = length-map keys bitLabel
 
-labels-at : (keys : List ℕ) (i : ℕ) → getD (labelsOf keys) i (pos 0) ≡ labelOf (getD keys i 0)
+labels-at : (keys : List ℕ) (i : ℕ) → getD (labelsOf keys) i (pos 0) ≡ bitLabel (getD keys i 0)
 unfolding labelsOf
-labels-at keys i = List·getD-map labelOf keys i 0
+labels-at keys i = List·getD-map bitLabel keys i 0
 
 module _ (keys : List ℕ) where
   below : (i : ℕ) → i < length keys → i < length (labelsOf keys)
@@ -59,12 +40,12 @@ module _ (keys : List ℕ) where
   pub decoys-step : (i : ℕ) → i < length keys → decoys (take (i + 1) (labelsOf keys)) ≡ decoys (take i (labelsOf keys)) + getD keys i 0 % 2
   decoys-step i h =
       decoys-next (labelsOf keys) i (pos 0) (below i h)
-      ∙ ap (λ (n : ℕ). decoys (take i (labelsOf keys)) + n) (ap (λ (z : ℤ). cond (isDecoy z) 1 0) (labels-at keys i) ∙ label-flag (getD keys i 0))
+      ∙ ap (λ (n : ℕ). decoys (take i (labelsOf keys)) + n) (ap (λ (z : ℤ). cond (isDecoy z) 1 0) (labels-at keys i) ∙ bit-decoy (getD keys i 0))
 
   pub targets-step : (i : ℕ) → i < length keys → targets (take (i + 1) (labelsOf keys)) ≡ targets (take i (labelsOf keys)) + (1 - getD keys i 0 % 2)
   targets-step i h =
       targets-next (labelsOf keys) i (pos 0) (below i h)
-      ∙ ap (λ (n : ℕ). targets (take i (labelsOf keys)) + n) (ap (λ (z : ℤ). cond (isDecoy z) 0 1) (labels-at keys i) ∙ label-plain (getD keys i 0))
+      ∙ ap (λ (n : ℕ). targets (take i (labelsOf keys)) + n) (ap (λ (z : ℤ). cond (isDecoy z) 0 1) (labels-at keys i) ∙ bit-target (getD keys i 0))
 
   pub all-counts : decoys (labelsOf keys) + targets (labelsOf keys) ≡ length keys
   all-counts =
@@ -133,16 +114,6 @@ assigned-start keys q₀ decoy e =
     counts : (n decoy d t : ℕ) → decoy ≡ d → d + t ≡ n → n + 1 - (decoy + 1) ≡ t
     counts n decoy d t e both = omega arith
 
--- a target whose q-value is low enough counts
-pass-one : (k rest : ℕ) (b : Bool) → rest + boolByte (b && eqb (k % 2) 0) ≡ cond (isDecoy (labelOf k)) rest (cond b (suc rest) rest)
-pass-one k rest b = go (isDecoy (labelOf k)) b (label-flag k)
-  where
-    go : (d b : Bool) → cond d 1 0 ≡ k % 2 → rest + boolByte (b && eqb (k % 2) 0) ≡ cond d rest (cond b (suc rest) rest)
-    go true true e = ap (λ (t : Bool). rest + boolByte t) (ne-eqb (k % 2) 0 (λ (z : k % 2 ≡ 0). omega arith)) ∙ add-zero rest
-    go true false e = add-zero rest
-    go false true e = ap (λ (t : Bool). rest + boolByte t) (eq-eqb (k % 2) 0 (sym e)) ∙ add-one rest
-    go false false e = add-zero rest
-
 module _ (keys : List ℕ) (j : ℕ) (h : j < length keys) where
   in-labels : j < length (labelsOf keys)
   in-labels = subst (λ (n : ℕ). j < n) (sym (length-labels keys)) h
@@ -168,7 +139,7 @@ module _ (keys : List ℕ) (j : ℕ) (h : j < length keys) where
 
   next-count : targetsAtMost (oneIn 20) (drop j (labelsOf keys)) (drop j (qValues (labelsOf keys)))
       ≡ (let rest = targetsAtMost (oneIn 20) (drop (suc j) (labelsOf keys)) (drop (suc j) (qValues (labelsOf keys))) in
-      cond (isDecoy (labelOf (getD keys j 0))) rest (cond (le (lowest (drop j (ratios (labelsOf keys)))) (oneIn 20)) (suc rest) rest))
+      cond (isDecoy (bitLabel (getD keys j 0))) rest (cond (le (lowest (drop j (ratios (labelsOf keys)))) (oneIn 20)) (suc rest) rest))
   unfolding targetsAtMost
   next-count =
       let U = labelsOf keys in
@@ -210,8 +181,8 @@ assigned-step keys q₀ {i} {decoy} {target} {least} {passing} {q} j w e m c m-i
       targets-are = omega (arith, targets-step keys j h);
       least-is = low;
       count-is = pass-one k passing (le m c)
-          ∙ ap (λ (x : Float). cond (isDecoy (labelOf k)) passing (cond (le m x) (suc passing) passing)) c-is
-          ∙ ap₂ (λ (n : ℕ) (x : Float). cond (isDecoy (labelOf k)) n (cond (le x (oneIn 20)) (suc n) n)) rest low
+          ∙ ap (λ (x : Float). cond (isDecoy (bitLabel k)) passing (cond (le m x) (suc passing) passing)) c-is
+          ∙ ap₂ (λ (n : ℕ) (x : Float). cond (isDecoy (bitLabel k)) n (cond (le x (oneIn 20)) (suc n) n)) rest low
           ∙ sym (next-count keys j h);
       column-is = ap₂ (λ (c : List Float) (x : Float). set c (placeOf k) x)
           (w .column-is ∙ ap (λ (n : ℕ). scattered (drop n keys) (drop n (qValues U)) q₀) i-is) low

@@ -2,13 +2,12 @@
 use mathlib.Core.List.{List, [], _∷_, map}
 use mathlib.Core.Bool.{cond}
 use Prim.Native.Nat.{ℕ, _+_, _*_, _/_, _%_}
-use lib.Dec.{eqb}
-use lib.IntN.{ℤ, pos, negsuc}
+use lib.IntN.{ℤ, pos}
 use lib.ListN.{length, getD, set}
 use lib.Ieee.{Float, nan, binary32}
 use Rattle.folds.specs.Columns.{tabulated}
 use Rattle.floats.specs.Convert.{converted}
-use Rattle.counting.specs.Labels.{isDecoy}
+use Rattle.counting.specs.Labels.{isDecoy, bitLabel}
 use Rattle.ranking.specs.Keys.{packed}
 
 -- twice the place, and one more for a decoy
@@ -30,14 +29,10 @@ packedScores scores = tabulated (rowKey [] scores) 0 (length scores)
 abbrev pub placeOf : ℕ → ℕ
 placeOf key = key % 4294967296 / 2
 
--- −1 for a decoy, 0 for a target
-abbrev pub labelOf : ℕ → ℤ
-labelOf key = cond (eqb (key % 2) 1) (negsuc 0) (pos 0)
-
 unfoldable pub labelsOf : List ℕ → List ℤ
-labelsOf keys = map labelOf keys
+labelsOf keys = map bitLabel keys
 
--- each number at its key's place, those of the first keys last
+-- each number at its key's place, written from the last key to the first
 unfoldable pub scattered : {A : Type 0} → List ℕ → List A → List A → List A
 scattered [] xs column = column
 scattered (k ∷ ks) [] column = column
