@@ -84,7 +84,7 @@ pub record Adding (slots : List ℕ) (labels : List ℤ) (scores : List Float) (
   pub left : allAllowed (length (t₀ .forward)) (drop i slots) ≡ true
   pub is : added (drop i slots) (drop i labels) (drop i scores) t ≡ added slots labels scores t₀
 
-allowed-within : (count slot : ℕ) → allowed count slot ≡ true → (slot ≡ noPart → ⊥) → slot < count
+pub allowed-within : (count slot : ℕ) → allowed count slot ≡ true → (slot ≡ noPart → ⊥) → slot < count
 allowed-within count slot e n = go (ltb slot count) refl
   where
     go : (b : Bool) → ltb slot count ≡ b → slot < count

@@ -23,11 +23,11 @@ use Rattle.competition.specs.Tables.{Table, noPart}
 use Rattle.fdr.specs.declared.Names.{Names}
 use Rattle.fdr.specs.Rows.{Side, seenSides, rankedSides}
 use Rattle.fdr.specs.QValues.{ratiosFrom, sideQ, sideLabel, passing, nameOf, qOf, rowQ, rowsQ}
-use Rattle.fdr.specs.Passes.{sideKey, sideAlong, sideOf, tagged, numberOf, labelOf, cappedFrom, named, rowOf, Within, Bits, Tagged, Ratable, Ready}
+use Rattle.fdr.specs.Passes.{sideKey, sideAlong, sideOf, tagged, floatOf, labelOf, cappedFrom, named, rowOf, Within, Bits, Tagged, Ratable, Ready}
 use Rattle.fdr.proofs.Keys.{Held, ratios-fit, capped-held, lows-held, length-ratios, tags-bits, numbers-tagged, along-tagged, all-tagged, tagged-again, lows-capped}
-use Rattle.fdr.proofs.Naming.{name-within, named-reads, named-bits, ones-bits, length-named, allowed-within}
+use Rattle.fdr.proofs.Naming.{name-within, named-reads, named-bits, ones-bits, length-named, slots-within}
 use Rattle.ranking.proofs.Sorting.{all-sorted}
-use Rattle.fdr.proofs.Sides.{Listed, plain-sorted, seen-listed, listed-within, few-plain, sorted-sides}
+use Rattle.fdr.proofs.Sides.{Listed, targets-sorted, seen-listed, listed-within, few-targets, sorted-sides}
 
 -- ---- the ranking and the two passes over its rows
 
@@ -37,7 +37,7 @@ still-ratable {bins} {forward} {reverse} keys keys₁ e w = record {
   few = w .few;
   reverse-fit = w .reverse-fit;
   within = rw e (all-sorted (Within forward) keys (w .within));
-  countable = rw (e, plain-sorted keys) (w .countable);
+  countable = rw (e, targets-sorted keys) (w .countable);
 }
 
 module _ (e : Estimator) (bins : List Float) (t : Table) (keys : List ℕ) where
@@ -53,15 +53,15 @@ module _ (e : Estimator) (bins : List Float) (t : Table) (keys : List ℕ) where
   minima-asks keys₂ k = rw k (tags-bits (cappedFrom e bins t one 0 keys) keys held)
 
   -- its minima are the q-values
-  minima-are : (keys₂ : List ℕ) → keys₂ ≡ tagged (cappedFrom e bins t one 0 keys) keys → lows (map numberOf keys₂) ≡ sideQ e bins (map (sideOf t) keys)
+  minima-are : (keys₂ : List ℕ) → keys₂ ≡ tagged (cappedFrom e bins t one 0 keys) keys → lows (map floatOf keys₂) ≡ sideQ e bins (map (sideOf t) keys)
   unfolding sideQ
   minima-are keys₂ k =
-      ap (λ (ks : List ℕ). lows (map numberOf ks)) k
+      ap (λ (ks : List ℕ). lows (map floatOf ks)) k
       ∙ ap lows (numbers-tagged (cappedFrom e bins t one 0 keys) keys held length-capped)
       ∙ lows-capped (ratiosFrom e bins one 0 (map (sideOf t) keys))
 
   rank-all : (keys₂ : List ℕ) → keys₂ ≡ tagged (cappedFrom e bins t one 0 keys) keys → (count : ℕ) (keys₃ : List ℕ)
-      → count ≡ targetsAtMost (oneIn 100) (map labelOf keys₂) (lows (map numberOf keys₂)) → keys₃ ≡ tagged (lows (map numberOf keys₂)) keys₂
+      → count ≡ targetsAtMost (oneIn 100) (map labelOf keys₂) (lows (map floatOf keys₂)) → keys₃ ≡ tagged (lows (map floatOf keys₂)) keys₂
       → (count ≡ targetsAtMost (oneIn 100) (map labelOf keys) (sideQ e bins (map (sideOf t) keys))) × (keys₃ ≡ tagged (sideQ e bins (map (sideOf t) keys)) keys)
   rank-all keys₂ k count keys₃ c m = (
     c
@@ -73,7 +73,7 @@ module _ (e : Estimator) (bins : List Float) (t : Table) (keys : List ℕ) where
 
   -- and so where the keys were sorted first
   pub rank-done : (keys₀ : List ℕ) → keys ≡ sorted keys₀ → (keys₂ : List ℕ) → keys₂ ≡ tagged (cappedFrom e bins t one 0 keys) keys → (count : ℕ) (keys₃ : List ℕ)
-      → count ≡ targetsAtMost (oneIn 100) (map labelOf keys₂) (lows (map numberOf keys₂)) → keys₃ ≡ tagged (lows (map numberOf keys₂)) keys₂
+      → count ≡ targetsAtMost (oneIn 100) (map labelOf keys₂) (lows (map floatOf keys₂)) → keys₃ ≡ tagged (lows (map floatOf keys₂)) keys₂
       → (count ≡ targetsAtMost (oneIn 100) (map labelOf (sorted keys₀)) (sideQ e bins (map (sideOf t) (sorted keys₀))))
       × (keys₃ ≡ tagged (sideQ e bins (map (sideOf t) (sorted keys₀))) (sorted keys₀))
   rank-done keys₀ s keys₂ k count keys₃ c m =
@@ -125,7 +125,7 @@ module _ {bins : List Float} {t : Table} {slots : List ℕ} {labels : List ℤ} 
       few = w .ready .few;
       reverse-fit = w .ready .even .reverse-fit;
       within = within;
-      countable = rw (w .front) (le-trans (few-plain t 0 (length (t .forward))) (w .ready .even .short));
+      countable = rw (w .front) (le-trans (few-targets t 0 (length (t .forward))) (w .ready .even .short));
     },
   )
 
@@ -183,13 +183,13 @@ module _ {bins : List Float} {t : Table} {slots : List ℕ} {labels : List ℤ} 
       column-length : length column ≡ length spare₀
       column-length = ap length named-part ∙ length-named names (tagged qs ks) blanks ∙ places
 
-      slots-within : All (λ s. eqb s noPart ≡ false → s * 2 + 1 < length column) slots
-      slots-within = allowed-within (length (t .forward)) (length column) (column-length ∙ w .ready .spare-fit) slots (w .ready .slots-allowed)
+      within-names : All (λ s. eqb s noPart ≡ false → s * 2 + 1 < length column) slots
+      within-names = slots-within (length (t .forward)) (length column) (column-length ∙ w .ready .spare-fit) slots (w .ready .slots-allowed)
 
       -- what `write_rows` asks
       pub rows-ask : (All Bits column × All (λ s. eqb s 4294967295 ≡ false → s * 2 + 1 < length column) slots) × ((length labels ≡ length slots) × (length q₀ ≡ length slots))
       unfolding blanks
-      rows-ask = ((rw named-part (named-bits names (tagged qs ks) blanks (tags-bits qs ks held-qs) (ones-bits (length (spare₁ ++ drop rows spare₀)))), slots-within), (w .ready .labels-fit, w .ready .q-fit))
+      rows-ask = ((rw named-part (named-bits names (tagged qs ks) blanks (tags-bits qs ks held-qs) (ones-bits (length (spare₁ ++ drop rows spare₀)))), within-names), (w .ready .labels-fit, w .ready .q-fit))
 
       -- a name reads its q-value
       name-reads : (name : ℕ) → name < length column → ofBits binary32 (getD column name 0) ≡ qOf names (rankedSides t) (sideQ e bins (rankedSides t)) name one
@@ -223,7 +223,7 @@ module _ {bins : List Float} {t : Table} {slots : List ℕ} {labels : List ℤ} 
         (
           reads
               ∙ tabulated-same (length slots)
-              (λ i h. row-reads (getD slots i 0) (getD labels i (pos 0)) (all-at (λ n. eqb n noPart ≡ false → n * 2 + 1 < length column) 0 slots slots-within i h)),
+              (λ i h. row-reads (getD slots i 0) (getD labels i (pos 0)) (all-at (λ n. eqb n noPart ≡ false → n * 2 + 1 < length column) 0 slots within-names i h)),
           (k ∙ same-blank 0 (part₁ ++ drop rows keys₁) keys₀ (length-front keys₁ part₁ rows (r .same-keys) ∙ w .same), s ∙ same-blank 0 column spare₀ column-length),
         ),
       )

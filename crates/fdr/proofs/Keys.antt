@@ -21,7 +21,7 @@ use Rattle.ranking.proofs.Ranks.{Fitting}
 use Rattle.kde.specs.declared.Estimator.{Estimator}
 use Rattle.fdr.specs.Rows.{Side}
 use Rattle.fdr.specs.QValues.{ratiosFrom}
-use Rattle.fdr.specs.Passes.{tagged, numberOf, Bits, Tagged}
+use Rattle.fdr.specs.Passes.{tagged, floatOf, Bits, Tagged}
 
 -- ---- one key
 
@@ -88,7 +88,7 @@ tags-bits (q ∷ qs) [] h = tt
 tags-bits (q ∷ qs) (k ∷ ks) h = (subst Bits (sym (digits-div (toBits binary32 q) (along-lt k))) (held-bits q (h .0)), tags-bits qs ks (h .1))
 
 -- they can be read back
-pub numbers-tagged : (qs : List Float) (keys : List ℕ) → All Held qs → length qs ≡ length keys → map numberOf (tagged qs keys) ≡ qs
+pub numbers-tagged : (qs : List Float) (keys : List ℕ) → All Held qs → length qs ≡ length keys → map floatOf (tagged qs keys) ≡ qs
 unfolding tagged
 numbers-tagged [] keys h e = refl
 numbers-tagged (q ∷ qs) [] h e = absurd (omega arith)

@@ -1,23 +1,24 @@
 -- The column of names: written down the ranked rows, it holds the q-value of the last row that has the name. Assumes nothing.
 use mathlib.Core.Path.{_≡_, refl, sym, ap, ap₂, _∙_, subst}
 use mathlib.Core.List.{List, [], _∷_, map}
-use mathlib.Core.Bool.{Bool, true, false, cond, _||_, false≢true}
+use mathlib.Core.Bool.{Bool, true, false, cond}
 use Prim.Native.Nat.{ℕ, zero, suc, _+_, _*_, _/_, _%_, _≤_, _<_, zero-le}
 use native.Mathlib.Numerals.{add-one}
 use native.Mathlib.Omega.{arith}
-use lib.Dec.{eqb, ltb, lit<}
-use borrow.Author.Tests.{eqb-true, eqb-false, ltb-true}
+use lib.Dec.{eqb, lit<}
+use borrow.Author.Tests.{eqb-true, eqb-false}
 use lib.ListN.{length, getD, drop, set, replicate, length-set, drop-of-length-le}
 use lib.Seq.{drop-cons, getD-set-same, getD-set-other}
 use lib.Ieee.{binary32, isNan, ofBits}
 use Rattle.folds.specs.Columns.{All}
 use Rattle.folds.proofs.Columns.{all-at}
 use Rattle.folds.proofs.Tests.{both}
+use Rattle.competition.proofs.Rows.{allowed-within}
 use Rattle.competition.specs.Tables.{Table, noPart, allowed, allAllowed}
 use Rattle.fdr.specs.declared.Names.{Names}
 use Rattle.fdr.specs.declared.Names.the-variants.{Two, One}
 use Rattle.fdr.specs.QValues.{nameOf, qOf}
-use Rattle.fdr.specs.Passes.{sideOf, numberOf, named, Bits, Tagged}
+use Rattle.fdr.specs.Passes.{sideOf, floatOf, named, Bits, Tagged}
 
 -- ---- a name's number
 
@@ -74,7 +75,7 @@ bits-cond true x y = refl
 bits-cond false x y = refl
 
 pub named-reads : (names : Names) (t : Table) (keys column : List ℕ) (name : ℕ) → All (λ k. k % 4294967296 / 2 * 2 + 1 < length column) keys
-    → ofBits binary32 (getD (named names keys column) name 0) ≡ qOf names (map (sideOf t) keys) (map numberOf keys) name (ofBits binary32 (getD column name 0))
+    → ofBits binary32 (getD (named names keys column) name 0) ≡ qOf names (map (sideOf t) keys) (map floatOf keys) name (ofBits binary32 (getD column name 0))
 unfolding named qOf
 named-reads names t [] column name w = refl
 named-reads names t (k ∷ ks) column name w =
@@ -83,7 +84,7 @@ named-reads names t (k ∷ ks) column name w =
     let h : n < length column = name-within names (along / 2) (eqb (along % 2) 1) (length column) (w .0) in
     named-reads names t ks (set column n (k / 4294967296)) name
     (subst (λ (m : ℕ). All (λ x. x % 4294967296 / 2 * 2 + 1 < m) ks) (sym (length-set column n (k / 4294967296))) (w .1))
-    ∙ ap (qOf names (map (sideOf t) ks) (map numberOf ks) name) (ap (ofBits binary32) (set-reads column n (k / 4294967296) name h) ∙ bits-cond (eqb n name) (k / 4294967296) (getD column name 0))
+    ∙ ap (qOf names (map (sideOf t) ks) (map floatOf ks) name) (ap (ofBits binary32) (set-reads column n (k / 4294967296) name h) ∙ bits-cond (eqb n name) (k / 4294967296) (getD column name 0))
 
 -- ---- each place holds the bits of a number
 
@@ -114,14 +115,10 @@ length-named names (k ∷ ks) column =
 
 -- ---- the rows' slots
 
-pub allowed-within : (count n : ℕ) → n ≡ 2 * count → (slots : List ℕ) → allAllowed count slots ≡ true
+pub slots-within : (count n : ℕ) → n ≡ 2 * count → (slots : List ℕ) → allAllowed count slots ≡ true
     → All (λ s. eqb s noPart ≡ false → s * 2 + 1 < n) slots
 unfolding allAllowed
-allowed-within count n e [] h = tt
-allowed-within count n e (s ∷ ss) h =
+slots-within count n e [] h = tt
+slots-within count n e (s ∷ ss) h =
     let b = both (allowed count s) (allAllowed count ss) h in
-    ((λ (p : eqb s noPart ≡ false). let l = below (ltb s count) (eqb s noPart) (b .0) p (ltb-true s count) in omega arith), allowed-within count n e ss (b .1))
-  where
-    below : (x y : Bool) → x || y ≡ true → y ≡ false → (x ≡ true → s < count) → s < count
-    below true y q p f = f refl
-    below false y q p f = absurd (false≢true (sym p ∙ q))
+    ((λ p. omega (arith, allowed-within count s (b .0) (eqb-false s noPart p))), slots-within count n e ss (b .1))

@@ -21,17 +21,17 @@ use Rattle.kde.specs.Estimate.{posteriorError}
 use Rattle.competition.specs.Tables.{Table}
 use Rattle.counting.specs.QValues.{one}
 use Rattle.fdr.specs.QValues.{errorOf, ratiosFrom}
-use Rattle.fdr.specs.Passes.{scoreAt, sideOf, plain, tagged, cappedFrom, Within}
+use Rattle.fdr.specs.Passes.{scoreAt, sideOf, targetKeys, tagged, cappedFrom, Within}
 
 pub record Summing (e : Estimator) (bins : List Float) (t : Table) (keys₀ : List ℕ) (i : ℕ) (sum : Float) (target : ℕ) (keys : List ℕ) : Type 0 where
   pub high : i ≤ length keys₀
   pub same : length keys ≡ length keys₀
   pub rest : drop i keys ≡ drop i keys₀
-  pub count : target + plain (drop i keys₀) ≡ plain keys₀
+  pub count : target + targetKeys (drop i keys₀) ≡ targetKeys keys₀
   pub is : take i keys ++ tagged (cappedFrom e bins t sum target (drop i keys₀)) (drop i keys₀) ≡ tagged (cappedFrom e bins t one 0 keys₀) keys₀
 
 pub summing-start : (e : Estimator) (bins : List Float) (t : Table) (keys : List ℕ) → Summing e bins t keys 0 (ofBits binary32 1065353216) 0 keys
-summing-start e bins t keys = record { high = zero-le; same = refl; rest = refl; count = zero-add (plain keys); is = refl }
+summing-start e bins t keys = record { high = zero-le; same = refl; rest = refl; count = zero-add (targetKeys keys); is = refl }
 
 -- the key at a place that is not passed yet
 pub summing-key : (e : Estimator) (bins : List Float) (t : Table) (keys₀ : List ℕ) {i : ℕ} {sum : Float} {target : ℕ} {keys : List ℕ}
@@ -57,10 +57,10 @@ seen-one a targets = go (eqb (a % 2) 1) (eqb-true (a % 2) 1) (eqb-false (a % 2) 
 
 -- the next count is small enough to be a float
 pub summing-few : (e : Estimator) (bins : List Float) (t : Table) (keys₀ : List ℕ) {i : ℕ} {sum : Float} {target : ℕ} {keys : List ℕ}
-    → Summing e bins t keys₀ i sum target keys → i < length keys₀ → target + (1 - getD keys i 0 % 4294967296 % 2) ≤ plain keys₀
-unfolding plain
+    → Summing e bins t keys₀ i sum target keys → i < length keys₀ → target + (1 - getD keys i 0 % 4294967296 % 2) ≤ targetKeys keys₀
+unfolding targetKeys
 summing-few e bins t keys₀ {i} {target = target} w h =
-    let c : target + plain (getD keys₀ i 0 ∷ drop (suc i) keys₀) ≡ plain keys₀ = ap (λ (ks : List ℕ). target + plain ks) (sym (drop-cons keys₀ i 0 h)) ∙ w .count in
+    let c : target + targetKeys (getD keys₀ i 0 ∷ drop (suc i) keys₀) ≡ targetKeys keys₀ = ap (λ (ks : List ℕ). target + targetKeys ks) (sym (drop-cons keys₀ i 0 h)) ∙ w .count in
     rw (summing-key e bins t keys₀ w) (omega arith)
 
 pub summing-step : (e : Estimator) (bins : List Float) (t : Table) (keys₀ : List ℕ) {i : ℕ} {sum : Float} {target : ℕ} {keys : List ℕ}
@@ -69,7 +69,7 @@ pub summing-step : (e : Estimator) (bins : List Float) (t : Table) (keys₀ : Li
     → r ≡ lesser (ofBits binary32 1065353216) (div binary32 (add binary32 sum pep) (ofInt binary32 (pos (target + (1 - getD keys i 0 % 4294967296 % 2)))))
     → v ≡ toBits binary32 r * 4294967296 + getD keys i 0 % 4294967296
     → Summing e bins t keys₀ (i + 1) (add binary32 sum pep) (target + (1 - getD keys i 0 % 4294967296 % 2)) (set keys i v)
-unfolding ratiosFrom tagged plain
+unfolding ratiosFrom tagged targetKeys
 summing-step e bins t keys₀ {i} {sum} {target} {keys} w h score wide error pep r v score-is wide-is error-is pep-is r-is v-is =
     let k = getD keys₀ i 0 in
     let along = k % 4294967296 in
@@ -84,9 +84,9 @@ summing-step e bins t keys₀ {i} {sum} {target} {keys} w h score wide error pep
       high = omega arith;
       same = length-set keys i v ∙ w .same;
       rest = drop-set-lt (i + 1) keys i v (omega arith) ∙ sym (drop-drop 1 i keys) ∙ ap (drop 1) (w .rest) ∙ drop-drop 1 i keys₀;
-      count = ap₂ (λ (x n : ℕ). target + (1 - x % 4294967296 % 2) + plain (drop n keys₀)) key (add-one i)
-          ∙ add-assoc target (1 - along % 2) (plain tail)
-          ∙ ap (λ (ks : List ℕ). target + plain ks) (sym split)
+      count = ap₂ (λ (x n : ℕ). target + (1 - x % 4294967296 % 2) + targetKeys (drop n keys₀)) key (add-one i)
+          ∙ add-assoc target (1 - along % 2) (targetKeys tail)
+          ∙ ap (λ (ks : List ℕ). target + targetKeys ks) (sym split)
           ∙ w .count;
       is = front-write i keys (tagged (cappedFrom e bins t (add binary32 sum pep) (target + (1 - getD keys i 0 % 4294967296 % 2)) (drop (i + 1) keys₀)) (drop (i + 1) keys₀)) v (omega (arith, w .same))
           ∙ ap (λ (l : List ℕ). take i keys ++ l)

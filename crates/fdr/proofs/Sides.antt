@@ -20,22 +20,22 @@ use Rattle.ranking.proofs.Sorting.{insert-here, insert-past}
 use Rattle.ranking.proofs.Ranks.{Fitting, Rising, packedFrom, sorted-ranks, unpacked, in-list}
 use Rattle.competition.specs.Tables.{Table, isSeen}
 use Rattle.fdr.specs.Rows.{Side, sidesFrom, seenSides, rankedSides}
-use Rattle.fdr.specs.Passes.{alongOf, sideKey, sideAlong, sideOf, plain, Within}
+use Rattle.fdr.specs.Passes.{alongOf, sideKey, sideAlong, sideOf, targetKeys, Within}
 
 -- ---- keys in another order
 
-plain-insert : (n : ℕ) (xs : List ℕ) → plain (insert n xs) ≡ plain (n ∷ xs)
-unfolding plain
-plain-insert n [] = unfold insert in refl
-plain-insert n (x ∷ xs) = elim (lt-or-ge x n) [
-  | inl k ↦ rw (insert-past n x xs k, plain-insert n xs) (add-left-comm (1 - x % 4294967296 % 2) (1 - n % 4294967296 % 2) (plain xs))
+targets-insert : (n : ℕ) (xs : List ℕ) → targetKeys (insert n xs) ≡ targetKeys (n ∷ xs)
+unfolding targetKeys
+targets-insert n [] = unfold insert in refl
+targets-insert n (x ∷ xs) = elim (lt-or-ge x n) [
+  | inl k ↦ rw (insert-past n x xs k, targets-insert n xs) (add-left-comm (1 - x % 4294967296 % 2) (1 - n % 4294967296 % 2) (targetKeys xs))
   | inr k ↦ rw (insert-here n x xs k)
 ]
 
-pub plain-sorted : (xs : List ℕ) → plain (sorted xs) ≡ plain xs
-unfolding sorted plain
-plain-sorted [] = refl
-plain-sorted (x ∷ xs) = plain-insert x (sorted xs) ∙ ap (λ (n : ℕ). 1 - x % 4294967296 % 2 + n) (plain-sorted xs)
+pub targets-sorted : (xs : List ℕ) → targetKeys (sorted xs) ≡ targetKeys xs
+unfolding sorted targetKeys
+targets-sorted [] = refl
+targets-sorted (x ∷ xs) = targets-insert x (sorted xs) ∙ ap (λ (n : ℕ). 1 - x % 4294967296 % 2 + n) (targets-sorted xs)
 
 -- ---- the list of seen sides
 
@@ -135,16 +135,16 @@ listed-within t lo n (s ∷ ss) l w = (
     half a h = omega arith
 
 -- a slot has at most one target
-pub few-plain : (t : Table) (slot k : ℕ) → plain (map sideKey (sidesFrom t slot k)) ≤ k
-unfolding sidesFrom plain
-few-plain t slot zero = le-refl 0
-few-plain t slot (suc k) = go (isSeen (getD (t .forwardSeen) slot 0)) (isSeen (getD (t .reverseSeen) slot 0)) (sidesFrom t (suc slot) k) (few-plain t (suc slot) k)
+pub few-targets : (t : Table) (slot k : ℕ) → targetKeys (map sideKey (sidesFrom t slot k)) ≤ k
+unfolding sidesFrom targetKeys
+few-targets t slot zero = le-refl 0
+few-targets t slot (suc k) = go (isSeen (getD (t .forwardSeen) slot 0)) (isSeen (getD (t .reverseSeen) slot 0)) (sidesFrom t (suc slot) k) (few-targets t (suc slot) k)
   where
     decoy : (h : ℕ) → (h * 4294967296 + (slot * 2 + 1)) % 4294967296 % 2 ≡ 1
     decoy h = omega arith
 
-    go : (f r : Bool) (later : List Side) → plain (map sideKey later) ≤ k
-        → plain (map sideKey ((cond f (side t slot false ∷ []) [] ++ cond r (side t slot true ∷ []) []) ++ later)) ≤ suc k
+    go : (f r : Bool) (later : List Side) → targetKeys (map sideKey later) ≤ k
+        → targetKeys (map sideKey ((cond f (side t slot false ∷ []) [] ++ cond r (side t slot true ∷ []) []) ++ later)) ≤ suc k
     go true true later h = let d = decoy (4294967295 - orderKey binary32 (getD (t .reverse) slot nan)) in omega arith
     go true false later h = omega arith
     go false true later h = let d = decoy (4294967295 - orderKey binary32 (getD (t .reverse) slot nan)) in omega arith

@@ -39,9 +39,9 @@ abbrev pub sideOf : Table → ℕ → Side
 sideOf t key = sideAlong t (key % 4294967296)
 
 -- how many keys are of targets
-unfoldable pub plain : List ℕ → ℕ
-plain [] = 0
-plain (k ∷ ks) = 1 - k % 4294967296 % 2 + plain ks
+unfoldable pub targetKeys : List ℕ → ℕ
+targetKeys [] = 0
+targetKeys (k ∷ ks) = 1 - k % 4294967296 % 2 + targetKeys ks
 
 -- ---- numbers in the scores' places
 
@@ -51,8 +51,9 @@ tagged [] keys = []
 tagged (q ∷ qs) [] = []
 tagged (q ∷ qs) (k ∷ ks) = (toBits binary32 q * 4294967296 + k % 4294967296) ∷ tagged qs ks
 
-abbrev pub numberOf : ℕ → Float
-numberOf key = ofBits binary32 (key / 4294967296)
+-- the float whose bits a key holds
+abbrev pub floatOf : ℕ → Float
+floatOf key = ofBits binary32 (key / 4294967296)
 
 abbrev pub labelOf : ℕ → ℤ
 labelOf key = bitLabel (key % 4294967296)
@@ -100,7 +101,7 @@ pub record Ratable (bins forward reverse : ℕ) (keys : List ℕ) : Type 0 where
   pub few : bins ≤ 65536
   pub reverse-fit : reverse ≡ forward
   pub within : All (Within forward) keys
-  pub countable : plain keys ≤ longest
+  pub countable : targetKeys keys ≤ longest
 
 -- ---- what the questions let pass
 

@@ -16,7 +16,7 @@ ghost use Rattle.ranking.specs.Keys.{sorted};
 ghost use Rattle.competition.specs.Tables.{isSeen, tableOf};
 ghost use Rattle.fdr.specs.Rows.{seenSides};
 ghost use Rattle.fdr.specs.QValues.{sideQ, passing, rowsQ, nameOf, assignAsked, assignAnswer, assignColumn};
-ghost use Rattle.fdr.specs.Passes.{sideKey, scoreAt, sideOf, tagged, numberOf, labelOf, cappedFrom, named, rowOf, Bits, Tagged, Even, Ratable, Ready};
+ghost use Rattle.fdr.specs.Passes.{sideKey, scoreAt, sideOf, tagged, floatOf, labelOf, cappedFrom, named, rowOf, Bits, Tagged, Even, Ratable, Ready};
 use columns::Counted;
 use columns::Outcome;
 use columns::Refusal;
@@ -65,10 +65,10 @@ fn pack(
     let mut rows: usize = 0;
     for slot in 0..forward.len() {
         let along = slot as u32 * 2;
-        let ahead = ranking::key(forward[slot], along);
-        let behind = ranking::key(reverse[slot], along + 1);
-        rows = put(keys, rows, forward_seen[slot], ahead);
-        rows = put(keys, rows, reverse_seen[slot], behind);
+        let forward_key = ranking::key(forward[slot], along);
+        let reverse_key = ranking::key(reverse[slot], along + 1);
+        rows = put(keys, rows, forward_seen[slot], forward_key);
+        rows = put(keys, rows, reverse_seen[slot], reverse_key);
     }
     rows
 }
@@ -120,8 +120,8 @@ fn write_ratios(
 // From the last row up: the least ratio so far takes the ratio's place. Counts the targets at or under 0.01.
 fn take_minima(keys: &mut [u64]) -> usize
     requires { ⌜ All Tagged (now keys) ⌝ }
-    ensures count { λ r. ⌜ r ≡ targetsAtMost (oneIn 100) (map labelOf (now (keys .entry))) (lows (map numberOf (now (keys .entry)))) ⌝ }
-    ensures keys { λ _. ⌜ now (keys .exit) ≡ tagged (lows (map numberOf (now (keys .entry)))) (now (keys .entry)) ⌝ }
+    ensures count { λ r. ⌜ r ≡ targetsAtMost (oneIn 100) (map labelOf (now (keys .entry))) (lows (map floatOf (now (keys .entry)))) ⌝ }
+    ensures keys { λ _. ⌜ now (keys .exit) ≡ tagged (lows (map floatOf (now (keys .entry)))) (now (keys .entry)) ⌝ }
 {
     let mut q_min: f32 = 1.0;
     let mut passing: usize = 0;
