@@ -31,6 +31,7 @@ known-points = record {
   zero-and-seven = refl;
   twenty = refl;
   nineteen = refl;
+  forty = refl;
   minus-small = systems.minus-small;
   not-a-number = systems.not-a-number;
   between = errors.between;

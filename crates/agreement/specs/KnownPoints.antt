@@ -61,9 +61,10 @@ pub record KnownPoints : Type 0 where
   -- "target, decoy, target: q 1, 1, 1. Labels 0 and 7 are targets."
   pub three-rows : spectrumColumn (target ∷ decoy ∷ target ∷ []) (replicate 3 nan) ≡ replicate 3 (whole 1)
   pub zero-and-seven : lineAnswer 100 (pos 0 ∷ pos 7 ∷ []) 2 ≡ Wrong (counts 2 1 2)
-  -- "20 targets, one decoy at one in 20: line 20, 20 targets"; "19 targets: line 0"
+  -- "20 targets, one decoy at one in 20: line 20, 20 targets"; "19 targets: line 0"; and, not marked, "40 targets, one decoy: line 41, 40 targets"
   pub twenty : lineAnswer 20 (thenDecoy 20) 20 ≡ Right (counts 20 1 20)
   pub nineteen : lineAnswer 20 (thenDecoy 19) 0 ≡ Right (counts 0 1 0)
+  pub forty : lineAnswer 20 (thenDecoy 40) 41 ≡ Right (counts 41 2 40)
   -- "system [−1E-8], right side 5: answer 5", whatever stands past the size
   pub minus-small : (left : Table) (right : Row) → entry left 0 0 ≡ neg small → getD right 0 nan ≡ whole 5
       → solution left right 1 ≡ answered (whole 5 ∷ replicate 19 nought)

@@ -319,6 +319,8 @@ fn equal_sides() {
         &mut scores,
         &mut is_decoy,
     ));
+    single(forward[0]);
+    single(reverse[0]);
     single(scores[0]);
     number_32(is_decoy[0]);
     text(b"\n");
@@ -357,8 +359,8 @@ fn minus_infinity() {
     text(b"\n");
 }
 
-// "two target slots scored 2.0 and 1.0, bins 0.5, 0.25, least 1, step 1: q 0.875 for both, count 0."
-fn two_slots() {
+// The q-values of two slots and of a row that takes no part.
+fn two_slots_q(forward: &[f32], reverse: &[f32], forward_seen: &[u32], reverse_seen: &[u32]) {
     let estimator = Estimator {
         min_score: 1.0,
         score_step: 1.0,
@@ -366,15 +368,14 @@ fn two_slots() {
     let mut keys = [9u64; 4];
     let mut spare = [9u64; 4];
     let mut q = [0.0f32; 3];
-    text(b"two target slots, and a row that takes no part:");
     told_count(fdr::assign_q_value(
         Names::Two,
         estimator,
         &[0.5f64, 0.25],
-        &[2.0f32, 1.0],
-        &[-3.4028235e38f32, -3.4028235e38],
-        &[1u32, 1],
-        &[0u32, 0],
+        forward,
+        reverse,
+        forward_seen,
+        reverse_seen,
         &[0u32, 1, 4294967295],
         &[1i32, 1, 1],
         &mut keys,
@@ -386,6 +387,31 @@ fn two_slots() {
     single(q[1]);
     single(q[2]);
     text(b"\n");
+}
+
+// "two target slots scored 2.0 and 1.0, bins 0.5, 0.25, least 1, step 1: q 0.875 for both, count 0."
+fn two_slots() {
+    let mut forward = [0.0f32; 2];
+    let mut reverse = [0.0f32; 2];
+    let mut forward_seen = [9u32; 2];
+    let mut reverse_seen = [9u32; 2];
+    text(b"two target slots, and a row that takes no part:");
+    told_outcome(competition::fresh_table(
+        &mut forward,
+        &mut reverse,
+        &mut forward_seen,
+        &mut reverse_seen,
+    ));
+    told_outcome(competition::add_rows(
+        &[0u32, 1, 4294967295],
+        &[1i32, 1, 1],
+        &[2.0f32, 1.0, 3.0],
+        &mut forward,
+        &mut reverse,
+        &mut forward_seen,
+        &mut reverse_seen,
+    ));
+    two_slots_q(&forward, &reverse, &forward_seen, &reverse_seen);
 }
 
 // "Is the line at most the list's length?" and "Do all lent columns have the stated length …?"
