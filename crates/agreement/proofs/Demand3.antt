@@ -1,5 +1,5 @@
 -- Demand 3 is proved from two laws of `counting`: exactly one line is right, and a row's q-value is at most one in k exactly up to that line. What the
--- line check answers is `line_check`'s; the rest takes the calls' definitions apart where they accept. Assumes nothing.
+-- line check answers is `line_check`'s; the rest takes the calls' definitions apart where they accept.
 use mathlib.Core.Path.{_≡_, refl, sym, ap, ap₂, _∙_, subst}
 use mathlib.Core.Logic.{inl, inr}
 use mathlib.Core.List.{List, [], _∷_, map}
@@ -13,9 +13,9 @@ use lib.Dec.{leb, eqb, leb·zero, leb·suc-suc, leb·suc-zero}
 use lib.IntN.{ℤ}
 use lib.ListN.{length, getD, take, length-map}
 use lib.Ieee.{Float, nan, binary32, le}
-use Rattle.folds.specs.Columns.{filled, tabulated}
+use Rattle.folds.specs.Lists.{filled, tabulated}
 use Rattle.folds.proofs.Tests.{both}
-use Rattle.folds.proofs.Columns.{getD-tabulated}
+use Rattle.folds.proofs.Writing.{getD-tabulated}
 use Rattle.columns.specs.Refusals.{longest}
 use Rattle.columns.specs.declared.Counted.{Counted}
 use Rattle.columns.specs.declared.Counted.the-variants.{Passing, Refused}
@@ -35,7 +35,7 @@ use Rattle.line_check.proofs.Check.{wrong-row, right-answered, wrong-answered}
 use Rattle.precursor.specs.Precursors.{rankedRows, asRanked, rankOf, precursorQ, asked, accepts, precursorAnswer, precursorColumn}
 use Rattle.precursor.proofs.Places.{has-row}
 use Rattle.precursor.proofs.Joined.{length-as-ranked}
-use Rattle.agreement.specs.Demand3.{OneRight, Instead, Demand3}
+use Rattle.agreement.specs.Demand3.{OneRight, LastQualifying, Demand3}
 
 -- ---- lines
 
@@ -47,7 +47,7 @@ one rate labels = record {
   only = λ other h r. right-line-only rate labels other r h;
 }
 
-instead : (rate : ℕ) (labels : List ℤ) (line : ℕ) → Instead rate labels line (max line (rightLine rate labels))
+instead : (rate : ℕ) (labels : List ℤ) (line : ℕ) → LastQualifying rate labels line (max line (rightLine rate labels))
 instead rate labels line = record {
   none-after = λ later h l. right-line rate labels .none-later later (omega arith) l;
   which = elim (wrong-row rate labels line) [
@@ -57,7 +57,7 @@ instead rate labels line = record {
 }
 
 wrong : (rate : ℕ) (labels : List ℤ) (line : ℕ) → length labels ≤ longest → line ≤ length labels → (RightLine rate labels line → ⊥)
-    → (row : ℕ) × Instead rate labels line row × (lineAnswer rate labels line ≡ Wrong (countsAt labels row))
+    → (row : ℕ) × LastQualifying rate labels line row × (lineAnswer rate labels line ≡ Wrong (countsAt labels row))
 wrong rate labels line s l n = (max line (rightLine rate labels), instead rate labels line, wrong-answered rate labels line s l n)
 
 -- ---- where a counting call accepts

@@ -1,12 +1,12 @@
--- The table of known points, by computation, and by the points of `gauss`, `kde`, `competition` and `fdr`. Assumes nothing.
+-- The table of known points, by computation, and by the points of `gauss`, `kde`, `competition` and `fdr`.
 use mathlib.Core.Path.{_≡_, refl}
 use lib.Ieee.{nan, ofBits, ofInt, div, lt, le, round}
-use Rattle.folds.specs.Columns.{tabulated}
-use Rattle.floats.specs.Least.{lesser, greater}
+use Rattle.folds.specs.Lists.{tabulated}
+use Rattle.floats.specs.MinMax.{minNumber, maxNumber}
 use Rattle.floats.specs.Ratio.{oneIn}
 use Rattle.counting.specs.Labels.{decoys, targets}
 use Rattle.counting.specs.Lines.{lastRow}
-use Rattle.counting.specs.QValues.{ratioAt, ratios, lowest, lows, qValues, atMost}
+use Rattle.counting.specs.QValues.{ratioAt, ratios, minimum, runningMinimum, qValues, atMost}
 use Rattle.qvalue.specs.Spectrum.{spectrumAnswer, spectrumColumn}
 use Rattle.line_check.specs.Check.{lineAnswer}
 use Rattle.gauss.proofs.Known as systems
@@ -18,11 +18,11 @@ use Rattle.agreement.specs.KnownPoints.{twoSlots, KnownPoints}
 
 -- the table that the rows leave
 two-slots-are : twoSlots ≡ competitions.twoTargets
-unfolding freshTable freshAnswer addedTable addAnswer added allAllowed greater lt ofBits
+unfolding freshTable freshAnswer addedTable addAnswer added allAllowed maxNumber lt ofBits
 two-slots-are = refl
 
 pub known-points : KnownPoints
-unfolding spectrumAnswer spectrumColumn lineAnswer lastRow qValues ratios ratioAt lows lowest atMost tabulated lesser oneIn decoys targets ofBits ofInt div lt le round
+unfolding spectrumAnswer spectrumColumn lineAnswer lastRow qValues ratios ratioAt runningMinimum minimum atMost tabulated minNumber oneIn decoys targets ofBits ofInt div lt le round
 known-points = record {
   no-rows = refl;
   no-rows-line = refl;

@@ -30,7 +30,7 @@ pub record OneRight (rate : ℕ) (labels : List ℤ) : Type 0 where
   pub only : (other : ℕ) → other ≤ length labels → RightLine rate labels other → other ≡ line
 
 -- module 7: "the last later row that qualifies, or, if none does, … the line itself"
-pub record Instead (rate : ℕ) (labels : List ℤ) (line row : ℕ) : Type 0 where
+pub record LastQualifying (rate : ℕ) (labels : List ℤ) (line row : ℕ) : Type 0 where
   pub none-after : (later : ℕ) → row < later → later ≤ length labels → qualifies rate labels later ≡ false
   pub which : (row ≡ line) ⊎ ((line < row) × (row ≤ length labels) × (qualifies rate labels row ≡ true))
 
@@ -41,7 +41,7 @@ pub record Demand3 : Type 0 where
       → RightLine (perOf rate) labels line → lineAnswer (perOf rate) labels line ≡ Right (countsAt labels line)
   pub check-wrong : (rate : Rate) (labels : List ℤ) (line : ℕ) → length labels ≤ longest → line ≤ length labels
       → (RightLine (perOf rate) labels line → ⊥)
-      → (row : ℕ) × Instead (perOf rate) labels line row × (lineAnswer (perOf rate) labels line ≡ Wrong (countsAt labels row))
+      → (row : ℕ) × LastQualifying (perOf rate) labels line row × (lineAnswer (perOf rate) labels line ≡ Wrong (countsAt labels row))
   -- the spectrum call, for the line that is right at one in 100; rows count from 1
   pub spectrum-count : (labels : List ℤ) (q : List Float) (count line : ℕ) → spectrumAnswer labels (length q) ≡ Passing count
       → line ≤ length labels → RightLine 100 labels line → count ≡ line

@@ -13,14 +13,15 @@ use Rattle.qvalue.specs.Spectrum.{spectrumAnswer, spectrumColumn}
 use Rattle.line_check.specs.Check.{lineAnswer}
 use Rattle.line_check.specs.declared.Counts.{Counts}
 use Rattle.line_check.specs.declared.Line.the-variants.{Right, Wrong}
-use Rattle.gauss.specs.Elimination.{Row, Table, entry, small, nought}
+use Rattle.floats.specs.Constants.{f64Zero}
+use Rattle.gauss.specs.Elimination.{Vector, Matrix, entry, small}
 use Rattle.gauss.specs.Solutions.{solution, answered, blank}
 use Rattle.kde.specs.declared.Tolerance.the-variants.{Ppm}
 use Rattle.kde.specs.declared.BinCount.the-variants.{Bins}
 use Rattle.kde.specs.Bins.{estimator}
 use Rattle.kde.specs.Estimate.{posteriorError}
 use Rattle.kde.specs.Tolerances.{binCountAnswer}
-use Rattle.competition.specs.Tables.{tableOf, freshTable, addedTable, Table as CompetitionTable}
+use Rattle.competition.specs.Tables.{tableOf, freshTable, addedTable, Table}
 use Rattle.competition.specs.Winners.{slotSeen, decoyFlag}
 use Rattle.fdr.specs.declared.Names.{Names}
 use Rattle.fdr.specs.QValues.{assignAnswer, assignColumn}
@@ -47,10 +48,10 @@ abbrev pub twoBins : List Float
 twoBins = fin false 1 (negsuc 0) ∷ fin false 1 (negsuc 1) ∷ []
 
 -- two slots, after a target of each was added, with 2.0 and 1.0; what the columns held before it was made fresh does not matter
-abbrev pub twoSlots : CompetitionTable
+abbrev pub twoSlots : Table
 twoSlots =
-    let came = tableOf (nan ∷ nan ∷ []) (nan ∷ nan ∷ []) (9 ∷ 9 ∷ []) (9 ∷ 9 ∷ []) in
-    addedTable (0 ∷ 1 ∷ []) (target ∷ target ∷ []) (fin false 1 (pos 1) ∷ whole 1 ∷ []) (freshTable came)
+    let initial = tableOf (nan ∷ nan ∷ []) (nan ∷ nan ∷ []) (9 ∷ 9 ∷ []) (9 ∷ 9 ∷ []) in
+    addedTable (0 ∷ 1 ∷ []) (target ∷ target ∷ []) (fin false 1 (pos 1) ∷ whole 1 ∷ []) (freshTable initial)
 
 pub record KnownPoints : Type 0 where
   -- "no rows: count 0, line 0 right"
@@ -66,10 +67,10 @@ pub record KnownPoints : Type 0 where
   pub nineteen : lineAnswer 20 (thenDecoy 19) 0 ≡ Right (counts 0 1 0)
   pub forty : lineAnswer 20 (thenDecoy 40) 41 ≡ Right (counts 41 2 40)
   -- "system [−1E-8], right side 5: answer 5", whatever stands past the size
-  pub minus-small : (left : Table) (right : Row) → entry left 0 0 ≡ neg small → getD right 0 nan ≡ whole 5
-      → solution left right 1 ≡ answered (whole 5 ∷ replicate 19 nought)
+  pub minus-small : (left : Matrix) (right : Vector) → entry left 0 0 ≡ neg small → getD right 0 nan ≡ whole 5
+      → solution left right 1 ≡ answered (whole 5 ∷ replicate 19 f64Zero)
   -- "system [NaN]: 7"
-  pub not-a-number : (left : Table) (right : Row) → entry left 0 0 ≡ nan → solution left right 1 ≡ blank Unsolved
+  pub not-a-number : (left : Matrix) (right : Vector) → entry left 0 0 ≡ nan → solution left right 1 ≡ blank Unsolved
   -- "bins 0.5, 0.25, least 0, step 1: score 0.5 gives 0.375; 2 gives 0.25; −3 gives 1.25"
   pub between : posteriorError (estimator (whole 0) (whole 1)) twoBins (fin false 1 (negsuc 0)) ≡ fin false 3 (negsuc 2)
   pub past : posteriorError (estimator (whole 0) (whole 1)) twoBins (fin false 1 (pos 1)) ≡ fin false 1 (negsuc 1)
@@ -77,7 +78,7 @@ pub record KnownPoints : Type 0 where
   -- "ppm −10 to 10: 100 bins"
   pub ppm : binCountAnswer (Ppm (fin true 5 (pos 1)) (fin false 5 (pos 1))) ≡ Bins 100
   -- "equal forward and reverse: decoy wins", in every table, for a slot that is seen
-  pub equal-sides : (t : CompetitionTable) (slot : ℕ) → slotSeen t slot ≡ true → T (eq (getD (t .forward) slot nan) (getD (t .reverse) slot nan))
+  pub equal-sides : (t : Table) (slot : ℕ) → slotSeen t slot ≡ true → T (eq (getD (t .forward) slot nan) (getD (t .reverse) slot nan))
       → decoyFlag t slot ≡ 1
   -- "two target slots scored 2.0 and 1.0, bins 0.5, 0.25, least 1, step 1: q 0.875 for both, count 0"
   pub two-slots-count : assignAnswer (estimator (whole 1) (whole 1)) twoBins twoSlots (0 ∷ 1 ∷ []) 2 4 4 2 ≡ Passing 0

@@ -1,7 +1,7 @@
 // What every call asks of its lent columns, and what a refusal leaves in them (document 01, "Questions asked of each call").
 ghost use mathlib.Core.Path.{_≡_};
 ghost use lib.Ieee.{nan};
-ghost use Rattle.folds.specs.Columns.{filled};
+ghost use Rattle.folds.specs.Lists.{filled};
 ghost use Rattle.columns.specs.Refusals.{numberOf, outcomeNumber, countedNumber, countedCount};
 
 // Why a call refuses, in the order of the questions.

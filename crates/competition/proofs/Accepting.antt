@@ -1,4 +1,4 @@
--- What an accepted batch says of its columns, and what adding keeps of a table. Assumes nothing.
+-- What an accepted batch says of its columns, and what adding keeps of a table.
 use mathlib.Core.Path.{_≡_, refl, sym, ap, _∙_}
 use mathlib.Core.List.{List, [], _∷_, _++_}
 use mathlib.Core.Bool.{Bool, true, false, cond, _&&_, and-assoc, false≢true}
@@ -8,9 +8,9 @@ use lib.Dec.{leb, eqb}
 use lib.IntN.{ℤ}
 use lib.ListN.{length, getD, set, replicate}
 use lib.Ieee.{Float, nan}
-use Rattle.folds.proofs.Columns.{tabulated-constant}
+use Rattle.folds.proofs.Writing.{tabulated-constant}
 use Rattle.folds.proofs.Tests.{both}
-use Rattle.folds.specs.Columns.{filled, tabulated}
+use Rattle.folds.specs.Lists.{filled, tabulated}
 use Rattle.columns.specs.Refusals.{longest, ifAccepted}
 use Rattle.columns.specs.declared.Outcome.{Outcome}
 use Rattle.columns.specs.declared.Outcome.the-variants.{Accepted, Refused}

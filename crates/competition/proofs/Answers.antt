@@ -1,4 +1,4 @@
--- What each way out of a call leaves, beside the definition's case. Assumes nothing.
+-- What each way out of a call leaves, beside the definition's case.
 use mathlib.Core.Path.{_≡_, refl, sym, ap, ap₂, _∙_}
 use mathlib.Core.List.{List}
 use mathlib.Core.Bool.{Bool, true, false, not, cond, _&&_, and-assoc}
@@ -9,14 +9,15 @@ use lib.IntN.{ℤ}
 use lib.ListN.{length}
 use lib.Ieee.{Float, nan}
 use Rattle.folds.proofs.Tests.{both}
-use Rattle.folds.specs.Columns.{filled, tabulated}
+use Rattle.folds.specs.Lists.{filled, tabulated}
 use Rattle.columns.specs.Refusals.{longest, ifAccepted}
 use Rattle.columns.specs.declared.Outcome.{Outcome}
 use Rattle.columns.specs.declared.Outcome.the-variants.{Accepted, Refused}
 use Rattle.columns.specs.declared.Refusal.the-variants.{TooLong, WrongLength, NoSuchSlot}
 use Rattle.competition.specs.declared.Competition.{Competition}
 use Rattle.columns.specs.declared.Refusal.{Refusal}
-use Rattle.competition.specs.Tables.{Table, tableOf, lowest, tableShort, tableFits, freshAnswer, freshTable, allAllowed, added, addAnswer, addedTable, AddReady}
+use Rattle.floats.specs.Constants.{f32Min}
+use Rattle.competition.specs.Tables.{Table, tableOf, tableShort, tableFits, freshAnswer, freshTable, allAllowed, added, addAnswer, addedTable, AddReady}
 use Rattle.competition.specs.Winners.{winner, decoyFlag, winnersAnswer, winnerScores, winnerDecoys, WinnersReady}
 
 last-of-four : (a b c d : Bool) → ((a && (b && c)) && d) ≡ (a && (b && (c && d)))
@@ -43,7 +44,7 @@ module _ (t : Table) where
 
   fresh-left : (r : Outcome) → freshAnswer t ≡ r
       → freshTable t
-      ≡ ifAccepted r (tableOf (filled lowest (t .forward)) (filled lowest (t .reverse)) (filled 0 (t .forwardSeen)) (filled 0 (t .reverseSeen))) t
+      ≡ ifAccepted r (tableOf (filled f32Min (t .forward)) (filled f32Min (t .reverse)) (filled 0 (t .forwardSeen)) (filled 0 (t .reverseSeen))) t
   unfolding freshTable
   fresh-left r e = rw e
 
@@ -59,7 +60,7 @@ module _ (t : Table) where
           let e = fresh-is true false (sym s ∙ not-false short p) (sym f ∙ not-true fit n) in
           record { answer = sym e; table = sym (fresh-left _ e) }
 
-      pub fresh-done : not fit ≡ false → {entry : Competition} → entry ≡ record { forward = lowest; reverse = lowest }
+      pub fresh-done : not fit ≡ false → {entry : Competition} → entry ≡ record { forward = f32Min; reverse = f32Min }
           → {forward reverse : List Float} {forwardSeen reverseSeen : List ℕ}
           → forward ≡ filled (entry .forward) (t .forward) → reverse ≡ filled (entry .reverse) (t .reverse)
           → forwardSeen ≡ filled 0 (t .forwardSeen) → reverseSeen ≡ filled 0 (t .reverseSeen)

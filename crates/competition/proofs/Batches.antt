@@ -1,5 +1,5 @@
 -- What holds of competition tables whatever the rows: batches join, rows that take no part and NaN scores change no score, columns keep their lengths
--- and marks, a fresh table has nothing seen, and ties go to the decoy. Assumes nothing.
+-- and marks, a fresh table has nothing seen, and ties go to the decoy.
 use mathlib.Core.Path.{_≡_, refl, sym, ap, subst, _∙_}
 use mathlib.Core.List.{List, [], _∷_, _++_}
 use mathlib.Core.Bool.{Bool, true, false, not, cond}
@@ -11,15 +11,16 @@ use lib.IntN.{ℤ}
 use lib.ListN.{length, getD, set, length-append}
 use lib.Seq.{set-getD}
 use lib.Ieee.{Float, nan, inf, fin, isNan, lt, eq, le, ofBits}
-use Rattle.folds.proofs.Columns.{getD-constant}
+use Rattle.folds.proofs.Writing.{getD-constant}
 use Rattle.folds.proofs.Tests.{both}
-use Rattle.folds.specs.Columns.{filled}
-use Rattle.floats.specs.Least.{greater}
-use Rattle.floats.proofs.Order.{greater-nan, eq→le, le-refl}
+use Rattle.folds.specs.Lists.{filled}
+use Rattle.floats.specs.MinMax.{maxNumber}
+use Rattle.floats.proofs.Order.{max-nan, eq→le, le-refl}
 use Rattle.columns.specs.Refusals.{longest}
 use Rattle.columns.specs.declared.Outcome.the-variants.{Accepted}
 use Rattle.counting.specs.Labels.{isDecoy}
-use Rattle.competition.specs.Tables.{Table, tableOf, lowest, noPart, freshAnswer, freshTable, allAllowed, withRow, added, addAnswer, addedTable}
+use Rattle.floats.specs.Constants.{f32Min}
+use Rattle.competition.specs.Tables.{Table, tableOf, noPart, freshAnswer, freshTable, allAllowed, withRow, added, addAnswer, addedTable}
 use Rattle.competition.specs.Winners.{slotSeen, decoyFlag, winnerScores, winnerDecoys}
 use Rattle.competition.proofs.Rows.{SameLengths}
 use Rattle.competition.proofs.Accepting.{accepting, accepted-part, table-of-accepted, all-allowed-joined, batch-lengths, same-lengths-or, answer-by-lengths, KeepsSeen, batch-keeps, keeps-or, unseen-scores, unseen-decoys}
@@ -117,23 +118,23 @@ module _ (slot : ℕ) (label : ℤ) (t : Table) (part : slot ≡ noPart → ⊥)
   -- a NaN score changes no score, and marks its side seen
   pub nan-of-target : isDecoy label ≡ false
       → withRow slot label nan t ≡ tableOf (t .forward) (t .reverse) (set (t .forwardSeen) slot 1) (t .reverseSeen)
-  nan-of-target d = rw (ne-eqb slot noPart part, d, greater-nan, set-getD)
+  nan-of-target d = rw (ne-eqb slot noPart part, d, max-nan, set-getD)
 
   pub nan-of-decoy : isDecoy label ≡ true
       → withRow slot label nan t ≡ tableOf (t .forward) (t .reverse) (t .forwardSeen) (set (t .reverseSeen) slot 1)
-  nan-of-decoy d = rw (ne-eqb slot noPart part, d, greater-nan, set-getD)
+  nan-of-decoy d = rw (ne-eqb slot noPart part, d, max-nan, set-getD)
 
 -- −infinity raises no number, so that a side which saw no other score stays at f32::MIN
-pub minus-infinity : (x : Float) → T (not (isNan x)) → greater x (inf true) ≡ x
-unfolding greater isNan lt
+pub minus-infinity : (x : Float) → T (not (isNan x)) → maxNumber x (inf true) ≡ x
+unfolding maxNumber isNan lt
 minus-infinity nan p = absurd p
 minus-infinity (inf true) p = refl
 minus-infinity (inf false) p = refl
 minus-infinity (fin s m e) p = refl
 
-pub minus-infinity-leaves-lowest : greater lowest (inf true) ≡ lowest
-unfolding greater lt ofBits
-minus-infinity-leaves-lowest = refl
+pub minus-infinity-leaves-f32-min : maxNumber f32Min (inf true) ≡ f32Min
+unfolding maxNumber lt ofBits
+minus-infinity-leaves-f32-min = refl
 
 -- ---- marks
 

@@ -1,4 +1,4 @@
--- One row's step on a table, and the rows of a batch one after the other. Assumes nothing.
+-- One row's step on a table, and the rows of a batch one after the other.
 use mathlib.Core.Path.{_≡_, refl, sym, ap, _∙_}
 use mathlib.Core.List.{List}
 use mathlib.Core.Bool.{Bool, true, false, cond, _||_}
@@ -16,7 +16,7 @@ use mir.Syntax.{w32}
 use mir.Val.{SFits, ofZ, toZ}
 use mir.ValLaws.{toZ-ofZ}
 use Rattle.folds.proofs.Tests.{both}
-use Rattle.floats.specs.Least.{greater}
+use Rattle.floats.specs.MinMax.{maxNumber}
 use Rattle.counting.specs.Labels.{isDecoy}
 use Rattle.counting.proofs.Tally.{label-test}
 use Rattle.competition.specs.declared.Competition.{Competition}
@@ -30,12 +30,12 @@ module _ (slot : ℕ) (label : ℤ) (score : Float) (t : Table) where
 
   module _ (e : slot ≡ noPart → ⊥) (fits : SFits w32 label) where
     pub decoy-row : ofZ w32 label ≡ 4294967295 → {entry : Competition}
-        → entry ≡ record { forward = getD (t .forward) slot nan; reverse = greater (getD (t .reverse) slot nan) score }
+        → entry ≡ record { forward = getD (t .forward) slot nan; reverse = maxNumber (getD (t .reverse) slot nan) score }
         → tableOf (t .forward) (set (t .reverse) slot (entry .reverse)) (t .forwardSeen) (set (t .reverseSeen) slot 1) ≡ withRow slot label score t
     decoy-row d r = rw (ne-eqb slot noPart e, sym (label-test label (fits .sfits)) ∙ eq-eqb (ofZ w32 label) 4294967295 d, r)
 
     pub target-row : (ofZ w32 label ≡ 4294967295 → ⊥) → {entry : Competition}
-        → entry ≡ record { forward = greater (getD (t .forward) slot nan) score; reverse = getD (t .reverse) slot nan }
+        → entry ≡ record { forward = maxNumber (getD (t .forward) slot nan) score; reverse = getD (t .reverse) slot nan }
         → tableOf (set (t .forward) slot (entry .forward)) (t .reverse) (set (t .forwardSeen) slot 1) (t .reverseSeen) ≡ withRow slot label score t
     target-row d r = rw (ne-eqb slot noPart e, sym (label-test label (fits .sfits)) ∙ ne-eqb (ofZ w32 label) 4294967295 d, r)
 

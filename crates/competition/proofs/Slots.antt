@@ -1,4 +1,4 @@
--- Question 5, asked of one slot after the other. Assumes nothing.
+-- Question 5, asked of one slot after the other.
 use mathlib.Core.Path.{_≡_, refl, sym, ap, _∙_}
 use mathlib.Core.List.{List}
 use mathlib.Core.Bool.{Bool, true, _&&_, and-assoc, and-true}

@@ -1,4 +1,4 @@
--- The two result columns of `winners`, written slot by slot. Assumes nothing.
+-- The two result columns of `winners`, written slot by slot.
 use mathlib.Core.Path.{_≡_, refl, ap, _∙_}
 use mathlib.Core.List.{List}
 use mathlib.Core.Bool.{Bool, true, false, not, cond, _&&_, _||_}
@@ -9,9 +9,9 @@ use lib.Seq.{set-set}
 use lib.Ieee.{Float, nan, binary32, div, le, ofBits}
 use mir.Val.{boolByte}
 use Rattle.folds.proofs.Tests.{byte-is}
-use Rattle.folds.specs.Columns.{tabulated}
-use Rattle.folds.proofs.Columns.{Writing, writing-start, writing-step, writing-done}
-use Rattle.floats.specs.Least.{greater}
+use Rattle.folds.specs.Lists.{tabulated}
+use Rattle.folds.proofs.Writing.{Writing, writing-start, writing-step, writing-done}
+use Rattle.floats.specs.MinMax.{maxNumber}
 use Rattle.competition.specs.Tables.{Table, isSeen}
 use Rattle.competition.specs.Winners.{slotSeen, winner, decoyFlag, WinnersReady}
 
@@ -46,7 +46,7 @@ module _ {t : Table} {scores : List Float} {decoys : List ℕ} {slot : ℕ} (w :
         }
 
     pub slotwise-seen : (eqb (getD (t .forwardSeen) slot 0) 0 && eqb (getD (t .reverseSeen) slot 0) 0) ≡ false → {x : Float} {d : Bool} (z : Float)
-        → x ≡ greater (getD (t .forward) slot nan) (getD (t .reverse) slot nan) → d ≡ le (getD (t .forward) slot nan) (getD (t .reverse) slot nan)
+        → x ≡ maxNumber (getD (t .forward) slot nan) (getD (t .reverse) slot nan) → d ≡ le (getD (t .forward) slot nan) (getD (t .reverse) slot nan)
         → Slotwise t (set (set scores slot z) slot x) (set (set decoys slot 4294967295) slot (boolByte d)) (slot + 1)
     slotwise-seen e {x} {d} z p q =
         let s : slotSeen t slot ≡ true = seen-test (getD (t .forwardSeen) slot 0) (getD (t .reverseSeen) slot 0) ∙ ap not e in

@@ -7,18 +7,15 @@ use Prim.Native.Nat.{ℕ, _<_}
 use lib.Dec.{leb, ltb, eqb}
 use lib.IntN.{ℤ}
 use lib.ListN.{length, getD, set}
-use lib.Ieee.{Float, nan, binary32, ofBits}
-use Rattle.folds.specs.Columns.{filled}
-use Rattle.floats.specs.Least.{greater}
+use lib.Ieee.{Float, nan}
+use Rattle.floats.specs.Constants.{f32Min}
+use Rattle.folds.specs.Lists.{filled}
+use Rattle.floats.specs.MinMax.{maxNumber}
 use Rattle.columns.specs.Refusals.{longest, ifAccepted}
 use Rattle.columns.specs.declared.Outcome.{Outcome}
 use Rattle.columns.specs.declared.Outcome.the-variants.{Accepted, Refused}
 use Rattle.columns.specs.declared.Refusal.the-variants.{TooLong, WrongLength, NoSuchSlot}
 use Rattle.counting.specs.Labels.{isDecoy}
-
--- f32::MIN: the least finite f32
-abbrev pub lowest : Float
-lowest = ofBits binary32 0xFF7FFFFF
 
 -- one entry per slot in each column
 pub record Table : Type 0 where
@@ -56,7 +53,7 @@ freshAnswer t = cond (tableShort t) (cond (tableFits t) Accepted (Refused WrongL
 unfoldable pub freshTable : Table → Table
 freshTable t =
     ifAccepted (freshAnswer t)
-    (tableOf (filled lowest (t .forward)) (filled lowest (t .reverse)) (filled 0 (t .forwardSeen)) (filled 0 (t .reverseSeen)))
+    (tableOf (filled f32Min (t .forward)) (filled f32Min (t .reverse)) (filled 0 (t .forwardSeen)) (filled 0 (t .reverseSeen)))
     t
 
 -- ---- adding rows
@@ -76,11 +73,11 @@ allAllowed count (s ∷ ss) = allowed count s && allAllowed count ss
 -- "A row raises its side by max and marks it seen"
 abbrev pub raiseForward : ℕ → Float → Table → Table
 raiseForward slot score t =
-    tableOf (set (t .forward) slot (greater (getD (t .forward) slot nan) score)) (t .reverse) (set (t .forwardSeen) slot 1) (t .reverseSeen)
+    tableOf (set (t .forward) slot (maxNumber (getD (t .forward) slot nan) score)) (t .reverse) (set (t .forwardSeen) slot 1) (t .reverseSeen)
 
 abbrev pub raiseReverse : ℕ → Float → Table → Table
 raiseReverse slot score t =
-    tableOf (t .forward) (set (t .reverse) slot (greater (getD (t .reverse) slot nan) score)) (t .forwardSeen) (set (t .reverseSeen) slot 1)
+    tableOf (t .forward) (set (t .reverse) slot (maxNumber (getD (t .reverse) slot nan) score)) (t .forwardSeen) (set (t .reverseSeen) slot 1)
 
 -- a decoy's side is the reverse one; a row that takes no part changes nothing
 abbrev pub withRow : ℕ → ℤ → Float → Table → Table

@@ -8,8 +8,8 @@ use lib.Dec.{eqb}
 use lib.ListN.{length, getD}
 use lib.Ieee.{Float, nan, le}
 use Rattle.columns.specs.Refusals.{ifAccepted}
-use Rattle.folds.specs.Columns.{filled, tabulated}
-use Rattle.floats.specs.Least.{greater}
+use Rattle.folds.specs.Lists.{filled, tabulated}
+use Rattle.floats.specs.MinMax.{maxNumber}
 use Rattle.columns.specs.declared.Outcome.{Outcome}
 use Rattle.columns.specs.declared.Outcome.the-variants.{Accepted, Refused}
 use Rattle.columns.specs.declared.Refusal.the-variants.{TooLong, WrongLength}
@@ -21,7 +21,7 @@ slotSeen t slot = isSeen (getD (t .forwardSeen) slot 0) || isSeen (getD (t .reve
 
 -- score(): the greater of both sides' scores, an unseen side's too, as in the Rust; of two zeros the forward one. NaN for an unseen slot.
 abbrev pub winner : Table → ℕ → Float
-winner t slot = cond (slotSeen t slot) (greater (getD (t .forward) slot nan) (getD (t .reverse) slot nan)) nan
+winner t slot = cond (slotSeen t slot) (maxNumber (getD (t .forward) slot nan) (getD (t .reverse) slot nan)) nan
 
 -- is_decoy(): 1 or 0, and 4,294,967,295 for an unseen slot
 abbrev pub decoyFlag : Table → ℕ → ℕ

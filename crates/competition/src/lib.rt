@@ -5,10 +5,11 @@ ghost use mathlib.Core.Bool.{_&&_};
 ghost use lib.Dec.{leb, eqb};
 ghost use lib.ListN.{length};
 ghost use lib.Ieee.{nan, le};
-ghost use Rattle.folds.specs.Columns.{filled, tabulated};
+ghost use Rattle.folds.specs.Lists.{filled, tabulated};
 ghost use Rattle.columns.specs.Refusals.{longest};
-ghost use Rattle.floats.specs.Least.{greater};
-ghost use Rattle.competition.specs.Tables.{lowest, tableOf, tableShort, tableFits, freshTable, freshAnswer, allowed, allAllowed, withRow, added, addAnswer, addedTable, RowReady, AddReady};
+ghost use Rattle.floats.specs.MinMax.{maxNumber};
+ghost use Rattle.floats.specs.Constants.{f32Min};
+ghost use Rattle.competition.specs.Tables.{tableOf, tableShort, tableFits, freshTable, freshAnswer, allowed, allAllowed, withRow, added, addAnswer, addedTable, RowReady, AddReady};
 ghost use Rattle.competition.specs.Winners.{winner, decoyFlag, winnersAnswer, winnerScores, winnerDecoys, WinnersReady};
 use columns::Outcome;
 use columns::Refusal;
@@ -27,7 +28,7 @@ impl Competition {
     pub const UNSEEN: f32 = -3.4028235e38;
 
     pub fn default() -> Self
-        ensures { λ r. ⌜ r ≡ record { forward = lowest; reverse = lowest } ⌝ }
+        ensures { λ r. ⌜ r ≡ record { forward = f32Min; reverse = f32Min } ⌝ }
     {
         Self {
             forward: Self::UNSEEN,
@@ -36,21 +37,21 @@ impl Competition {
     }
 
     pub fn raise_forward(mut self, score: f32) -> Self
-        ensures { λ r. ⌜ r ≡ record { forward = greater (self .forward) score; reverse = self .reverse } ⌝ }
+        ensures { λ r. ⌜ r ≡ record { forward = maxNumber (self .forward) score; reverse = self .reverse } ⌝ }
     {
         self.forward = floats::max_f32(self.forward, score);
         self
     }
 
     pub fn raise_reverse(mut self, score: f32) -> Self
-        ensures { λ r. ⌜ r ≡ record { forward = self .forward; reverse = greater (self .reverse) score } ⌝ }
+        ensures { λ r. ⌜ r ≡ record { forward = self .forward; reverse = maxNumber (self .reverse) score } ⌝ }
     {
         self.reverse = floats::max_f32(self.reverse, score);
         self
     }
 
     pub fn score(self) -> f32
-        ensures { λ r. ⌜ r ≡ greater (self .forward) (self .reverse) ⌝ }
+        ensures { λ r. ⌜ r ≡ maxNumber (self .forward) (self .reverse) ⌝ }
     {
         floats::max_f32(self.forward, self.reverse)
     }

@@ -1,5 +1,4 @@
 -- Decoys and targets up to a row. Each row adds one to the one or the other, by its label, so together they are the row's number.
--- Assumes nothing.
 use mathlib.Core.Path.{_≡_, refl, ap, _∙_}
 use mathlib.Core.Logic.{_⊎_, inl, inr}
 use mathlib.Core.List.{List, [], _∷_, map}

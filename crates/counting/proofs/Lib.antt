@@ -1,6 +1,6 @@
 pub mod Labels
 pub mod Lines
-pub mod Lowest
+pub mod RunningMinimum
 pub mod QValues
 pub mod Tally
-pub mod Columns
+pub mod Passes

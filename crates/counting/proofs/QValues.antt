@@ -1,5 +1,5 @@
 -- Q-values and lines. A row's own ratio is at most one in k exactly where the row qualifies; the running minimum carries that to
--- "this row or a later one qualifies", which is "this row is not past the right line". Assumes nothing.
+-- "this row or a later one qualifies", which is "this row is not past the right line".
 use mathlib.Core.Path.{_≡_, sym, ap, fun-ext, _∙_}
 use mathlib.Core.Logic.{inl, inr}
 use mathlib.Core.List.{List, map}
@@ -21,11 +21,11 @@ use Rattle.floats.proofs.Order.{lt-of-le-of-lt, lt-of-lt-of-le}
 use Rattle.floats.proofs.Ratio.{Sharp, ratio as one-rounding, ratio-at-most, ratio-none, ratio-mono}
 use Rattle.counting.specs.Labels.{isDecoy, decoys, targets}
 use Rattle.counting.specs.Lines.{qualifies, rightLine}
-use Rattle.counting.specs.QValues.{ratio, ratioAt, ratios, lowest, qValues, atMost}
+use Rattle.counting.specs.QValues.{ratio, ratioAt, ratios, minimum, qValues, atMost}
 use Rattle.counting.proofs.Labels.{row-counts, same-decoys, same-targets, same-length}
 use Rattle.counting.proofs.Lines.{last-within, last-own, last-upper}
-use Rattle.folds.proofs.Columns.{length-tabulated, getD-tabulated}
-use Rattle.counting.proofs.Lowest.{lowest-most, lowest-above, lowest-of, lowest-from, length-lows, lows-at, lows-rise, count-up}
+use Rattle.folds.proofs.Writing.{length-tabulated, getD-tabulated}
+use Rattle.counting.proofs.RunningMinimum.{minimum-most, minimum-above, minimum-of, minimum-from, length-running-minimum, running-minimum-at, running-minimum-rise, count-up}
 
 -- ---- the columns
 
@@ -39,11 +39,11 @@ ratios-at labels i d h = getD-tabulated (ratioAt labels) 1 (length labels) i d h
 
 pub q-length : (labels : List ℤ) → length (qValues labels) ≡ length labels
 unfolding qValues
-q-length labels = length-lows (ratios labels) ∙ length-ratios labels
+q-length labels = length-running-minimum (ratios labels) ∙ length-ratios labels
 
-q-at : (labels : List ℤ) (i : ℕ) → i < length labels → getD (qValues labels) i nan ≡ lowest (drop i (ratios labels))
+q-at : (labels : List ℤ) (i : ℕ) → i < length labels → getD (qValues labels) i nan ≡ minimum (drop i (ratios labels))
 unfolding qValues
-q-at labels i h = lows-at (ratios labels) i nan (rw length-ratios h)
+q-at labels i h = running-minimum-at (ratios labels) i nan (rw length-ratios h)
 
 -- the ratios from a place on
 from-at : (labels : List ℤ) (i j : ℕ) → j < length (drop i (ratios labels)) → i + j < length labels
@@ -54,10 +54,10 @@ from-at labels i j h = omega (arith, rw (length-drop, length-ratios) at h)
 -- a q column never falls down the list
 pub q-rises : (labels : List ℤ) (i : ℕ) → i + 1 < length labels → T (le (getD (qValues labels) i nan) (getD (qValues labels) (i + 1) nan))
 unfolding qValues
-q-rises labels i h = rw add-one (lows-rise (ratios labels) i (omega (arith, length-ratios labels)))
+q-rises labels i h = rw add-one (running-minimum-rise (ratios labels) i (omega (arith, length-ratios labels)))
 
 pub q-at-most-one : (labels : List ℤ) (i : ℕ) → i < length labels → T (le (getD (qValues labels) i nan) (ofBits binary32 0x3F800000))
-q-at-most-one labels i h = rw (q-at labels i h) (lowest-most (drop i (ratios labels)))
+q-at-most-one labels i h = rw (q-at labels i h) (minimum-most (drop i (ratios labels)))
 
 -- above +0.0
 abbrev above-none : Float → Type 0
@@ -75,7 +75,7 @@ module _ (labels : List ℤ) (short : length labels ≤ 16777215) where
   unfolding ratioAt
   q-above-none i h =
       rw (q-at labels i h)
-      (lowest-above (ofBits binary32 0) (unfold lt ofBits in tt) (drop i (ratios labels)) (λ (j : ℕ) (l : j < length (drop i (ratios labels))).
+      (minimum-above (ofBits binary32 0) (unfold lt ofBits in tt) (drop i (ratios labels)) (λ (j : ℕ) (l : j < length (drop i (ratios labels))).
       let r = row-counts (i + j + 1) labels in
       rw (getD-drop, ratios-at labels (i + j) nan (from-at labels i j l))
       (ratio-above (decoys (take (i + j + 1) labels) + 1) (targets (take (i + j + 1) labels)) (omega arith) (omega arith) (omega arith))))
@@ -101,15 +101,15 @@ module _ (labels : List ℤ) (short : length labels ≤ 16777215) where
     from-qualifies i j h = rw (getD-drop, ratios-at labels (i + j) nan (from-at labels i j h)) (ratio-qualifies (i + j + 1))
 
     -- this row or a later one qualifies
-    low-qualifies : (i : ℕ) → T (le (lowest (drop i (ratios labels))) (oneIn k)) → i + 1 ≤ rightLine k labels
+    low-qualifies : (i : ℕ) → T (le (minimum (drop i (ratios labels))) (oneIn k)) → i + 1 ≤ rightLine k labels
     low-qualifies i t =
-        let w = lowest-from (oneIn k) below-one (drop i (ratios labels)) t in
+        let w = minimum-from (oneIn k) below-one (drop i (ratios labels)) t in
         let row = i + w .0 + 1 in
         let q : qualifies k labels row ≡ true = sym (from-qualifies i (w .0) (w .1)) ∙ is-true _ (w .2) in
         let h : row ≤ length labels = omega (arith, from-at labels i (w .0) (w .1)) in
         omega (arith, last-upper (qualifies k labels) (length labels) row q h)
 
-    qualifies-low : (i : ℕ) → i + 1 ≤ rightLine k labels → T (le (lowest (drop i (ratios labels))) (oneIn k))
+    qualifies-low : (i : ℕ) → i + 1 ≤ rightLine k labels → T (le (minimum (drop i (ratios labels))) (oneIn k))
     qualifies-low i h =
         let line = rightLine k labels in
         let j = line - (i + 1) in
@@ -118,14 +118,14 @@ module _ (labels : List ℤ) (short : length labels ≤ 16777215) where
         let row : i + j + 1 ≡ line = omega arith in
         elim (last-own (qualifies k labels) (length labels)) [
           | inl e ↦ absurd (omega (arith, e))
-          | inr e ↦ lowest-of (oneIn k) (drop i (ratios labels)) j l (passes _ (from-qualifies i j l ∙ ap (qualifies k labels) row ∙ e))
+          | inr e ↦ minimum-of (oneIn k) (drop i (ratios labels)) j l (passes _ (from-qualifies i j l ∙ ap (qualifies k labels) row ∙ e))
         ]
 
     -- the rows with a q-value of at most one in k are those up to the right line
     pub q-at-most : (i : ℕ) → i < length labels → le (getD (qValues labels) i nan) (oneIn k) ≡ leb (i + 1) (rightLine k labels)
     q-at-most i h =
         rw (q-at labels i h)
-        (same-test (le (lowest (drop i (ratios labels))) (oneIn k)) (leb (i + 1) (rightLine k labels))
+        (same-test (le (minimum (drop i (ratios labels))) (oneIn k)) (leb (i + 1) (rightLine k labels))
         (λ t. le→leb (i + 1) (rightLine k labels) (low-qualifies i t)) (λ t. qualifies-low i (leb→le (i + 1) (rightLine k labels) t)))
 
     -- and they are as many

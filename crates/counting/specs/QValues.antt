@@ -5,9 +5,10 @@ use mathlib.Core.Bool.{cond}
 use Prim.Native.Nat.{ℕ, suc, _+_}
 use lib.IntN.{ℤ, pos}
 use lib.ListN.{length, take}
-use lib.Ieee.{Float, binary32, div, le, ofInt, ofBits}
-use Rattle.folds.specs.Columns.{tabulated}
-use Rattle.floats.specs.Least.{lesser}
+use lib.Ieee.{Float, binary32, div, le, ofInt}
+use Rattle.floats.specs.Constants.{f32One}
+use Rattle.folds.specs.Lists.{tabulated}
+use Rattle.floats.specs.MinMax.{minNumber}
 use Rattle.counting.specs.Labels.{isDecoy, decoys, targets}
 
 -- a over b, as f32: both counts as f32, and their quotient rounded
@@ -22,23 +23,19 @@ ratioAt labels row = ratio (decoys (take row labels) + 1) (targets (take row lab
 unfoldable pub ratios : List ℤ → List Float
 ratios labels = tabulated (ratioAt labels) 1 (length labels)
 
--- 1.0, at which the minimum starts
-abbrev pub one : Float
-one = ofBits binary32 0x3F800000
-
 -- the least of 1.0 and the numbers given
-unfoldable pub lowest : List Float → Float
-lowest [] = one
-lowest (r ∷ rs) = lesser (lowest rs) r
+unfoldable pub minimum : List Float → Float
+minimum [] = f32One
+minimum (r ∷ rs) = minNumber (minimum rs) r
 
 -- at each place the least of 1.0 and the numbers from there on
-unfoldable pub lows : List Float → List Float
-lows [] = []
-lows (r ∷ rs) = lowest (r ∷ rs) ∷ lows rs
+unfoldable pub runningMinimum : List Float → List Float
+runningMinimum [] = []
+runningMinimum (r ∷ rs) = minimum (r ∷ rs) ∷ runningMinimum rs
 
 -- the q-value of every row: the least of 1.0 and the ratios from that row down
 unfoldable pub qValues : List ℤ → List Float
-qValues labels = lows (ratios labels)
+qValues labels = runningMinimum (ratios labels)
 
 -- how many of the numbers are at most c
 unfoldable pub atMost : Float → List Float → ℕ

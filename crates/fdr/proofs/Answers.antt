@@ -1,4 +1,4 @@
--- The four questions and their answers: `ask` answers as the definition, and what it accepts has every length that the passes ask. Assumes nothing.
+-- The four questions and their answers: `ask` answers as the definition, and what it accepts has every length that the passes ask.
 use mathlib.Core.Path.{_≡_, refl, sym, ap, ap₂, _∙_}
 use mathlib.Core.List.{List}
 use mathlib.Core.Bool.{Bool, true, false, not, cond, _&&_}
@@ -10,7 +10,7 @@ use lib.IntN.{ℤ}
 use lib.ListN.{length}
 use lib.Ieee.{Float, nan}
 use Rattle.folds.proofs.Tests.{both}
-use Rattle.folds.specs.Columns.{filled}
+use Rattle.folds.specs.Lists.{filled}
 use Rattle.columns.specs.Refusals.{longest}
 use Rattle.columns.specs.declared.Outcome.{Outcome}
 use Rattle.columns.specs.declared.Outcome.the-variants.{Accepted, Refused}

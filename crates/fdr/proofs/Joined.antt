@@ -1,5 +1,5 @@
 -- The passes joined with the definitions: the keys after the ranking are those of the ranked sides, their numbers the q-values, and a row reads at
--- its name what the definition gives. Assumes nothing.
+-- its name what the definition gives.
 use mathlib.Core.Path.{_≡_, refl, sym, ap, ap₂, _∙_, subst}
 use mathlib.Core.List.{List, [], _∷_, _++_, map}
 use mathlib.Core.Bool.{Bool, true, false, cond}
@@ -11,12 +11,13 @@ use lib.IntN.{ℤ, pos}
 use lib.ListN.{length, getD, take, drop, length-map, length-replicate, getD-replicate}
 use lib.Seq.{take-at, length-take-le, length-front}
 use lib.Ieee.{Float, nan, binary32, fits, ofBits}
-use Rattle.folds.proofs.Columns.{tabulated-same, same-blank, all-map, all-at}
-use Rattle.folds.specs.Columns.{filled, tabulated, All}
+use Rattle.folds.proofs.Writing.{tabulated-same, same-blank, all-map, all-at}
+use Rattle.folds.specs.Lists.{filled, tabulated, All}
 use Rattle.floats.specs.Ratio.{oneIn}
 use Rattle.counting.specs.Labels.{isDecoy, bitLabel}
-use Rattle.counting.specs.QValues.{one, lows, targetsAtMost}
-use Rattle.counting.proofs.Lowest.{length-lows}
+use Rattle.floats.specs.Constants.{f32One}
+use Rattle.counting.specs.QValues.{runningMinimum, targetsAtMost}
+use Rattle.counting.proofs.RunningMinimum.{length-running-minimum}
 use Rattle.ranking.specs.Keys.{sorted}
 use Rattle.kde.specs.declared.Estimator.{Estimator}
 use Rattle.competition.specs.Tables.{Table, noPart}
@@ -24,7 +25,7 @@ use Rattle.fdr.specs.declared.Names.{Names}
 use Rattle.fdr.specs.Rows.{Side, seenSides, rankedSides}
 use Rattle.fdr.specs.QValues.{ratiosFrom, sideQ, sideLabel, passing, nameOf, qOf, rowQ, rowsQ}
 use Rattle.fdr.specs.Passes.{sideKey, sideAlong, sideOf, tagged, floatOf, labelOf, cappedFrom, named, rowOf, Within, Bits, Tagged, Ratable, Ready}
-use Rattle.fdr.proofs.Keys.{Held, ratios-fit, capped-held, lows-held, length-ratios, tags-bits, numbers-tagged, along-tagged, all-tagged, tagged-again, lows-capped}
+use Rattle.fdr.proofs.Keys.{Held, ratios-fit, capped-held, running-minimum-held, length-ratios, tags-bits, numbers-tagged, along-tagged, all-tagged, tagged-again, running-minimum-capped}
 use Rattle.fdr.proofs.Naming.{name-within, named-reads, named-bits, ones-bits, length-named, slots-within}
 use Rattle.ranking.proofs.Sorting.{all-sorted}
 use Rattle.fdr.proofs.Sides.{Listed, targets-sorted, seen-listed, listed-within, few-targets, sorted-sides}
@@ -41,39 +42,39 @@ still-ratable {bins} {forward} {reverse} keys keys₁ e w = record {
 }
 
 module _ (e : Estimator) (bins : List Float) (t : Table) (keys : List ℕ) where
-  length-capped : length (cappedFrom e bins t one 0 keys) ≡ length keys
+  length-capped : length (cappedFrom e bins t f32One 0 keys) ≡ length keys
   length-capped =
-      length-map (ratiosFrom e bins one 0 (map (sideOf t) keys)) _ ∙ length-ratios e bins one 0 (map (sideOf t) keys) ∙ length-map keys (sideOf t)
+      length-map (ratiosFrom e bins f32One 0 (map (sideOf t) keys)) _ ∙ length-ratios e bins f32One 0 (map (sideOf t) keys) ∙ length-map keys (sideOf t)
 
-  held : All Held (cappedFrom e bins t one 0 keys)
-  held = capped-held (ratiosFrom e bins one 0 (map (sideOf t) keys)) (ratios-fit e bins one 0 (map (sideOf t) keys))
+  held : All Held (cappedFrom e bins t f32One 0 keys)
+  held = capped-held (ratiosFrom e bins f32One 0 (map (sideOf t) keys)) (ratios-fit e bins f32One 0 (map (sideOf t) keys))
 
   -- what `take_minima` asks
-  pub minima-asks : (keys₂ : List ℕ) → keys₂ ≡ tagged (cappedFrom e bins t one 0 keys) keys → All Tagged keys₂
-  minima-asks keys₂ k = rw k (tags-bits (cappedFrom e bins t one 0 keys) keys held)
+  pub minima-asks : (keys₂ : List ℕ) → keys₂ ≡ tagged (cappedFrom e bins t f32One 0 keys) keys → All Tagged keys₂
+  minima-asks keys₂ k = rw k (tags-bits (cappedFrom e bins t f32One 0 keys) keys held)
 
   -- its minima are the q-values
-  minima-are : (keys₂ : List ℕ) → keys₂ ≡ tagged (cappedFrom e bins t one 0 keys) keys → lows (map floatOf keys₂) ≡ sideQ e bins (map (sideOf t) keys)
+  minima-are : (keys₂ : List ℕ) → keys₂ ≡ tagged (cappedFrom e bins t f32One 0 keys) keys → runningMinimum (map floatOf keys₂) ≡ sideQ e bins (map (sideOf t) keys)
   unfolding sideQ
   minima-are keys₂ k =
-      ap (λ (ks : List ℕ). lows (map floatOf ks)) k
-      ∙ ap lows (numbers-tagged (cappedFrom e bins t one 0 keys) keys held length-capped)
-      ∙ lows-capped (ratiosFrom e bins one 0 (map (sideOf t) keys))
+      ap (λ (ks : List ℕ). runningMinimum (map floatOf ks)) k
+      ∙ ap runningMinimum (numbers-tagged (cappedFrom e bins t f32One 0 keys) keys held length-capped)
+      ∙ running-minimum-capped (ratiosFrom e bins f32One 0 (map (sideOf t) keys))
 
-  rank-all : (keys₂ : List ℕ) → keys₂ ≡ tagged (cappedFrom e bins t one 0 keys) keys → (count : ℕ) (keys₃ : List ℕ)
-      → count ≡ targetsAtMost (oneIn 100) (map labelOf keys₂) (lows (map floatOf keys₂)) → keys₃ ≡ tagged (lows (map floatOf keys₂)) keys₂
+  rank-all : (keys₂ : List ℕ) → keys₂ ≡ tagged (cappedFrom e bins t f32One 0 keys) keys → (count : ℕ) (keys₃ : List ℕ)
+      → count ≡ targetsAtMost (oneIn 100) (map labelOf keys₂) (runningMinimum (map floatOf keys₂)) → keys₃ ≡ tagged (runningMinimum (map floatOf keys₂)) keys₂
       → (count ≡ targetsAtMost (oneIn 100) (map labelOf keys) (sideQ e bins (map (sideOf t) keys))) × (keys₃ ≡ tagged (sideQ e bins (map (sideOf t) keys)) keys)
   rank-all keys₂ k count keys₃ c m = (
     c
-        ∙ ap₂ (targetsAtMost (oneIn 100)) (ap (map labelOf) k ∙ along-tagged bitLabel (cappedFrom e bins t one 0 keys) keys length-capped) (minima-are keys₂ k),
+        ∙ ap₂ (targetsAtMost (oneIn 100)) (ap (map labelOf) k ∙ along-tagged bitLabel (cappedFrom e bins t f32One 0 keys) keys length-capped) (minima-are keys₂ k),
     m
         ∙ ap₂ tagged (minima-are keys₂ k) k
-        ∙ tagged-again (sideQ e bins (map (sideOf t) keys)) (cappedFrom e bins t one 0 keys) keys length-capped,
+        ∙ tagged-again (sideQ e bins (map (sideOf t) keys)) (cappedFrom e bins t f32One 0 keys) keys length-capped,
   )
 
   -- and so where the keys were sorted first
-  pub rank-done : (keys₀ : List ℕ) → keys ≡ sorted keys₀ → (keys₂ : List ℕ) → keys₂ ≡ tagged (cappedFrom e bins t one 0 keys) keys → (count : ℕ) (keys₃ : List ℕ)
-      → count ≡ targetsAtMost (oneIn 100) (map labelOf keys₂) (lows (map floatOf keys₂)) → keys₃ ≡ tagged (lows (map floatOf keys₂)) keys₂
+  pub rank-done : (keys₀ : List ℕ) → keys ≡ sorted keys₀ → (keys₂ : List ℕ) → keys₂ ≡ tagged (cappedFrom e bins t f32One 0 keys) keys → (count : ℕ) (keys₃ : List ℕ)
+      → count ≡ targetsAtMost (oneIn 100) (map labelOf keys₂) (runningMinimum (map floatOf keys₂)) → keys₃ ≡ tagged (runningMinimum (map floatOf keys₂)) keys₂
       → (count ≡ targetsAtMost (oneIn 100) (map labelOf (sorted keys₀)) (sideQ e bins (map (sideOf t) (sorted keys₀))))
       × (keys₃ ≡ tagged (sideQ e bins (map (sideOf t) (sorted keys₀))) (sorted keys₀))
   rank-done keys₀ s keys₂ k count keys₃ c m =
@@ -141,11 +142,11 @@ module _ {bins : List Float} {t : Table} {slots : List ℕ} {labels : List ℤ} 
 
     length-qs : length qs ≡ length ks
     unfolding sideQ
-    length-qs = length-lows (ratiosFrom e bins one 0 (map (sideOf t) ks)) ∙ length-ratios e bins one 0 (map (sideOf t) ks) ∙ length-map ks (sideOf t)
+    length-qs = length-running-minimum (ratiosFrom e bins f32One 0 (map (sideOf t) ks)) ∙ length-ratios e bins f32One 0 (map (sideOf t) ks) ∙ length-map ks (sideOf t)
 
     held-qs : All Held qs
     unfolding sideQ
-    held-qs = lows-held (ratiosFrom e bins one 0 (map (sideOf t) ks)) (ratios-fit e bins one 0 (map (sideOf t) ks))
+    held-qs = running-minimum-held (ratiosFrom e bins f32One 0 (map (sideOf t) ks)) (ratios-fit e bins f32One 0 (map (sideOf t) ks))
 
     -- the keys that the other passes see
     front-is : take rows (part₁ ++ drop rows keys₁) ≡ tagged qs ks
@@ -192,7 +193,7 @@ module _ {bins : List Float} {t : Table} {slots : List ℕ} {labels : List ℤ} 
       rows-ask = ((rw named-part (named-bits names (tagged qs ks) blanks (tags-bits qs ks held-qs) (ones-bits (length (spare₁ ++ drop rows spare₀)))), within-names), (w .ready .labels-fit, w .ready .q-fit))
 
       -- a name reads its q-value
-      name-reads : (name : ℕ) → name < length column → ofBits binary32 (getD column name 0) ≡ qOf names (rankedSides t) (sideQ e bins (rankedSides t)) name one
+      name-reads : (name : ℕ) → name < length column → ofBits binary32 (getD column name 0) ≡ qOf names (rankedSides t) (sideQ e bins (rankedSides t)) name f32One
       unfolding blanks
       name-reads name h =
           ap (λ (c : List ℕ). ofBits binary32 (getD c name 0)) named-part
@@ -206,9 +207,9 @@ module _ {bins : List Float} {t : Table} {slots : List ℕ} {labels : List ℤ} 
           → rowOf names column slot label ≡ rowQ names (rankedSides t) (sideQ e bins (rankedSides t)) slot label
       row-reads slot label h = go (eqb slot noPart) (λ p. name-reads (nameOf names slot (isDecoy label)) (name-within names slot (isDecoy label) (length column) (h p)))
         where
-          go : (b : Bool) → (b ≡ false → ofBits binary32 (getD column (nameOf names slot (isDecoy label)) 0) ≡ qOf names (rankedSides t) (sideQ e bins (rankedSides t)) (nameOf names slot (isDecoy label)) one)
-              → cond b one (ofBits binary32 (getD column (nameOf names slot (isDecoy label)) 0))
-              ≡ cond b one (qOf names (rankedSides t) (sideQ e bins (rankedSides t)) (nameOf names slot (isDecoy label)) one)
+          go : (b : Bool) → (b ≡ false → ofBits binary32 (getD column (nameOf names slot (isDecoy label)) 0) ≡ qOf names (rankedSides t) (sideQ e bins (rankedSides t)) (nameOf names slot (isDecoy label)) f32One)
+              → cond b f32One (ofBits binary32 (getD column (nameOf names slot (isDecoy label)) 0))
+              ≡ cond b f32One (qOf names (rankedSides t) (sideQ e bins (rankedSides t)) (nameOf names slot (isDecoy label)) f32One)
           go true k = refl
           go false k = k refl
 

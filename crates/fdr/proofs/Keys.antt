@@ -1,4 +1,4 @@
--- Keys and what goes along with them: a number written over the score leaves what goes along, and can be read back. Assumes nothing.
+-- Keys and what goes along with them: a number written over the score leaves what goes along, and can be read back.
 use mathlib.Core.Path.{_≡_, refl, sym, ap, ap₂, _∙_, subst}
 use mathlib.Core.Logic.{inl, inr}
 use mathlib.Core.List.{List, [], _∷_, map}
@@ -11,12 +11,13 @@ use lib.ListN.{length}
 use lib.Ieee.{Float, binary32, fits, isNan, lt, le, ofBits, toBits}
 use lib.Ieee.Fits.{div-fits}
 use lib.Ieee.Bits.{cond-no, ofBits-toBits, toBits-lt, ofBits-fits}
-use Rattle.folds.specs.Columns.{All}
-use Rattle.folds.proofs.Columns.{all-mapped}
-use Rattle.floats.specs.Least.{lesser}
-use Rattle.floats.proofs.Order.{le-left, lt→not-le, lt-of-lt-of-le, lesser-either, lesser-le-left}
-use Rattle.counting.specs.QValues.{one, lowest, lows}
-use Rattle.counting.proofs.Lowest.{lesser-number, lowest-number, lowest-most}
+use Rattle.folds.specs.Lists.{All}
+use Rattle.folds.proofs.Writing.{all-mapped}
+use Rattle.floats.specs.MinMax.{minNumber}
+use Rattle.floats.proofs.Order.{le-left, lt→not-le, lt-of-lt-of-le, min-either, min-le-left}
+use Rattle.floats.specs.Constants.{f32One}
+use Rattle.counting.specs.QValues.{minimum, runningMinimum}
+use Rattle.counting.proofs.RunningMinimum.{min-of-number, minimum-number, minimum-most}
 use Rattle.ranking.proofs.Ranks.{Fitting}
 use Rattle.kde.specs.declared.Estimator.{Estimator}
 use Rattle.fdr.specs.Rows.{Side}
@@ -42,18 +43,18 @@ held-bits q h = record {
   number = subst (λ (x : Float). T (not (isNan x))) (sym (ofBits-toBits binary32 q (h .1))) (h .0);
 }
 
-pub one-number : T (not (isNan one))
+pub one-number : T (not (isNan f32One))
 unfolding isNan ofBits
 one-number = tt
 
-one-fits : T (fits binary32 one)
+one-fits : T (fits binary32 f32One)
 one-fits = ofBits-fits binary32 0x3F800000
 
-pub least-number : (a b : Float) → T (not (isNan a)) → T (not (isNan (lesser a b)))
-least-number a b h = le-left (lesser a b) a (lesser-le-left a b h)
+pub least-number : (a b : Float) → T (not (isNan a)) → T (not (isNan (minNumber a b)))
+least-number a b h = le-left (minNumber a b) a (min-le-left a b h)
 
-lesser-fits : (a b : Float) → T (fits binary32 a) → T (fits binary32 b) → T (fits binary32 (lesser a b))
-lesser-fits a b p q = elim (lesser-either a b) [ inl e ↦ rw e p | inr e ↦ rw e q ]
+min-fits : (a b : Float) → T (fits binary32 a) → T (fits binary32 b) → T (fits binary32 (minNumber a b))
+min-fits a b p q = elim (min-either a b) [ inl e ↦ rw e p | inr e ↦ rw e q ]
 
 -- ratios are of the format, so that their minima, and ratios held to 1.0, can be written
 pub ratios-fit : (e : Estimator) (bins : List Float) (sum : Float) (targets : ℕ) (sides : List Side) → Fitting (ratiosFrom e bins sum targets sides)
@@ -61,18 +62,18 @@ unfolding ratiosFrom
 ratios-fit e bins sum targets [] = tt
 ratios-fit e bins sum targets (s ∷ ss) = (div-fits binary32 _ _, ratios-fit e bins _ _ ss)
 
-pub capped-held : (rs : List Float) → Fitting rs → All Held (map (lesser one) rs)
-capped-held rs w = all-mapped (λ r. T (fits binary32 r)) Held (lesser one) (λ r h. (least-number one r one-number, lesser-fits one r one-fits h)) rs w
+pub capped-held : (rs : List Float) → Fitting rs → All Held (map (minNumber f32One) rs)
+capped-held rs w = all-mapped (λ r. T (fits binary32 r)) Held (minNumber f32One) (λ r h. (least-number f32One r one-number, min-fits f32One r one-fits h)) rs w
 
-lowest-fits : (rs : List Float) → Fitting rs → T (fits binary32 (lowest rs))
-unfolding lowest
-lowest-fits [] w = one-fits
-lowest-fits (r ∷ rs) w = lesser-fits (lowest rs) r (lowest-fits rs (w .1)) (w .0)
+minimum-fits : (rs : List Float) → Fitting rs → T (fits binary32 (minimum rs))
+unfolding minimum
+minimum-fits [] w = one-fits
+minimum-fits (r ∷ rs) w = min-fits (minimum rs) r (minimum-fits rs (w .1)) (w .0)
 
-pub lows-held : (rs : List Float) → Fitting rs → All Held (lows rs)
-unfolding lows
-lows-held [] w = tt
-lows-held (r ∷ rs) w = ((lowest-number (r ∷ rs), lowest-fits (r ∷ rs) w), lows-held rs (w .1))
+pub running-minimum-held : (rs : List Float) → Fitting rs → All Held (runningMinimum rs)
+unfolding runningMinimum
+running-minimum-held [] w = tt
+running-minimum-held (r ∷ rs) w = ((minimum-number (r ∷ rs), minimum-fits (r ∷ rs) w), running-minimum-held rs (w .1))
 
 -- ---- numbers in the scores' places
 
@@ -123,24 +124,24 @@ tagged-again (q ∷ qs) (r ∷ rs) (k ∷ ks) e =
 
 -- ---- a ratio above 1.0 and a NaN may stand as 1.0: the minimum starts there
 
-capped : (a r : Float) → T (not (isNan a)) → T (le a one) → lesser a (lesser one r) ≡ lesser a r
+capped : (a r : Float) → T (not (isNan a)) → T (le a f32One) → minNumber a (minNumber f32One r) ≡ minNumber a r
 capped a r n h =
-    ap (lesser a) (lesser-number one r one-number)
-    ∙ go (lt r one) (λ t. lt-of-lt-of-le r a one t h)
+    ap (minNumber a) (min-of-number f32One r one-number)
+    ∙ go (lt r f32One) (λ t. lt-of-lt-of-le r a f32One t h)
   where
-    least : lesser a one ≡ a
-    least = lesser-number a one n ∙ cond-no (lt one a) one a (not-T (lt one a) (λ t. lt→not-le one a t h))
+    least : minNumber a f32One ≡ a
+    least = min-of-number a f32One n ∙ cond-no (lt f32One a) f32One a (not-T (lt f32One a) (λ t. lt→not-le f32One a t h))
 
-    go : (x : Bool) → (T (lt r a) → T x) → lesser a (cond x r one) ≡ lesser a r
+    go : (x : Bool) → (T (lt r a) → T x) → minNumber a (cond x r f32One) ≡ minNumber a r
     go true f = refl
-    go false f = least ∙ sym (lesser-number a r n ∙ cond-no (lt r a) r a (not-T (lt r a) f))
+    go false f = least ∙ sym (min-of-number a r n ∙ cond-no (lt r a) r a (not-T (lt r a) f))
 
-lowest-capped : (rs : List Float) → lowest (map (lesser one) rs) ≡ lowest rs
-unfolding lowest
-lowest-capped [] = refl
-lowest-capped (r ∷ rs) = ap (λ (x : Float). lesser x (lesser one r)) (lowest-capped rs) ∙ capped (lowest rs) r (lowest-number rs) (lowest-most rs)
+minimum-capped : (rs : List Float) → minimum (map (minNumber f32One) rs) ≡ minimum rs
+unfolding minimum
+minimum-capped [] = refl
+minimum-capped (r ∷ rs) = ap (λ (x : Float). minNumber x (minNumber f32One r)) (minimum-capped rs) ∙ capped (minimum rs) r (minimum-number rs) (minimum-most rs)
 
-pub lows-capped : (rs : List Float) → lows (map (lesser one) rs) ≡ lows rs
-unfolding lows
-lows-capped [] = refl
-lows-capped (r ∷ rs) = ap₂ _∷_ (lowest-capped (r ∷ rs)) (lows-capped rs)
+pub running-minimum-capped : (rs : List Float) → runningMinimum (map (minNumber f32One) rs) ≡ runningMinimum rs
+unfolding runningMinimum
+running-minimum-capped [] = refl
+running-minimum-capped (r ∷ rs) = ap₂ _∷_ (minimum-capped (r ∷ rs)) (running-minimum-capped rs)

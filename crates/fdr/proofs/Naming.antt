@@ -1,4 +1,4 @@
--- The column of names: written down the ranked rows, it holds the q-value of the last row that has the name. Assumes nothing.
+-- The column of names: written down the ranked rows, it holds the q-value of the last row that has the name.
 use mathlib.Core.Path.{_≡_, refl, sym, ap, ap₂, _∙_, subst}
 use mathlib.Core.List.{List, [], _∷_, map}
 use mathlib.Core.Bool.{Bool, true, false, cond}
@@ -10,8 +10,8 @@ use borrow.Author.Tests.{eqb-true, eqb-false}
 use lib.ListN.{length, getD, drop, set, replicate, length-set, drop-of-length-le}
 use lib.Seq.{drop-cons, getD-set-same, getD-set-other}
 use lib.Ieee.{binary32, isNan, ofBits}
-use Rattle.folds.specs.Columns.{All}
-use Rattle.folds.proofs.Columns.{all-at}
+use Rattle.folds.specs.Lists.{All}
+use Rattle.folds.proofs.Writing.{all-at}
 use Rattle.folds.proofs.Tests.{both}
 use Rattle.competition.proofs.Rows.{allowed-within}
 use Rattle.competition.specs.Tables.{Table, noPart, allowed, allAllowed}

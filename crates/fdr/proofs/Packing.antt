@@ -1,4 +1,4 @@
--- The pass that packs the seen sides: the keys so far are those of the slots passed. Assumes nothing.
+-- The pass that packs the seen sides: the keys so far are those of the slots passed.
 use mathlib.Core.Path.{_≡_, refl, sym, ap, ap₂, _∙_}
 use mathlib.Core.List.{List, [], _∷_, _++_, map, append-nil, append-assoc, map-append}
 use mathlib.Core.Bool.{Bool, true, false, cond}

@@ -1,5 +1,5 @@
 -- What users ask of a competition's q-values, and points that a reader can check by hand: the q-values of ranked rows never fall; document 01's
--- known point; and what one name and two names make of a slot whose two sides are seen. Assumes nothing.
+-- known point; and what one name and two names make of a slot whose two sides are seen.
 use mathlib.Core.Path.{_≡_, refl}
 use mathlib.Core.List.{List, [], _∷_}
 use mathlib.Core.Bool.{false}
@@ -10,16 +10,17 @@ use lib.Dec.{T}
 use lib.IntN.{ℤ, pos, negsuc}
 use lib.ListN.{length, getD}
 use lib.Ieee.{Float, nan, fin, ofBits, ofInt, toUnsigned, add, sub, mul, div, le}
-use Rattle.floats.specs.Least.{lesser}
+use Rattle.floats.specs.MinMax.{minNumber}
 use Rattle.floats.specs.TotalOrder.{before}
 use Rattle.ranking.specs.Ranking.{inserted, rankedFrom}
 use Rattle.columns.specs.declared.Counted.the-variants.{Passing}
-use Rattle.counting.specs.QValues.{one, lowest}
-use Rattle.counting.proofs.Lowest.{lows-rise}
+use Rattle.floats.specs.Constants.{f32One, f32Min as unseen}
+use Rattle.counting.specs.QValues.{minimum}
+use Rattle.counting.proofs.RunningMinimum.{running-minimum-rise}
 use Rattle.kde.specs.declared.Estimator.{Estimator}
 use Rattle.kde.specs.Bins.{estimator}
 use Rattle.kde.proofs.Points.{halves}
-use Rattle.competition.specs.Tables.{Table, tableOf, noPart, lowest as unseen}
+use Rattle.competition.specs.Tables.{Table, tableOf, noPart}
 use Rattle.fdr.specs.declared.Names.{Names}
 use Rattle.fdr.specs.declared.Names.the-variants.{Two, One}
 use Rattle.fdr.specs.Rows.{Side, rankedSides}
@@ -32,7 +33,7 @@ pub q-rises : (e : Estimator) (bins : List Float) (t : Table) (i : ℕ) → i + 
     → T (le (getD (sideQ e bins (rankedSides t)) i nan) (getD (sideQ e bins (rankedSides t)) (i + 1) nan))
 unfolding sideQ
 q-rises e bins t i h =
-    rw add-one (lows-rise (ratiosFrom e bins one 0 (rankedSides t)) i (omega (arith, length-ratios e bins one 0 (rankedSides t))))
+    rw add-one (running-minimum-rise (ratiosFrom e bins f32One 0 (rankedSides t)) i (omega (arith, length-ratios e bins f32One 0 (rankedSides t))))
 
 -- ---- under one name a slot's two sides have one q-value
 
@@ -48,12 +49,12 @@ abbrev pub twoTargets : Table
 twoTargets = tableOf (fin false 1 (pos 1) ∷ fin false 1 (pos 0) ∷ []) (unseen ∷ unseen ∷ []) (1 ∷ 1 ∷ []) (0 ∷ 0 ∷ [])
 
 pub two-targets-count : assignAnswer fromOne halves twoTargets (0 ∷ 1 ∷ []) 2 4 4 2 ≡ Passing 0
-unfolding assignAnswer rankedFrom inserted before le lowest lesser ofBits div add toUnsigned sub mul ofInt
+unfolding assignAnswer rankedFrom inserted before le minimum minNumber ofBits div add toUnsigned sub mul ofInt
 two-targets-count = refl
 
 pub two-targets-q : (names : Names) (x y : Float)
     → assignColumn names fromOne halves twoTargets (0 ∷ 1 ∷ []) (pos 1 ∷ pos 1 ∷ []) 4 4 (x ∷ y ∷ []) ≡ fin false 7 (negsuc 2) ∷ fin false 7 (negsuc 2) ∷ []
-unfolding assignColumn rankedFrom inserted before le lowest lesser ofBits div add toUnsigned sub mul ofInt
+unfolding assignColumn rankedFrom inserted before le minimum minNumber ofBits div add toUnsigned sub mul ofInt
 two-targets-q Two x y = refl
 two-targets-q One x y = refl
 
@@ -68,10 +69,10 @@ bins = fin false 1 (negsuc 0) ∷ fin false 0 (pos 0) ∷ []
 
 pub two-names : rowsQ Two fromOne bins twoSides (0 ∷ 0 ∷ 1 ∷ 1 ∷ noPart ∷ []) (pos 1 ∷ negsuc 0 ∷ pos 1 ∷ negsuc 0 ∷ pos 1 ∷ [])
     ≡ fin false 1 (negsuc 0) ∷ fin false 3 (negsuc 1) ∷ fin false 1 (negsuc 0) ∷ fin false 1 (pos 0) ∷ fin false 1 (pos 0) ∷ []
-unfolding rowsQ rankedFrom inserted before le lowest lesser ofBits div add toUnsigned sub mul ofInt
+unfolding rowsQ rankedFrom inserted before le minimum minNumber ofBits div add toUnsigned sub mul ofInt
 two-names = refl
 
 pub one-name : rowsQ One fromOne bins twoSides (0 ∷ 0 ∷ 1 ∷ 1 ∷ noPart ∷ []) (pos 1 ∷ negsuc 0 ∷ pos 1 ∷ negsuc 0 ∷ pos 1 ∷ [])
     ≡ fin false 3 (negsuc 1) ∷ fin false 3 (negsuc 1) ∷ fin false 1 (negsuc 0) ∷ fin false 1 (negsuc 0) ∷ fin false 1 (pos 0) ∷ []
-unfolding rowsQ rankedFrom inserted before le lowest lesser ofBits div add toUnsigned sub mul ofInt
+unfolding rowsQ rankedFrom inserted before le minimum minNumber ofBits div add toUnsigned sub mul ofInt
 one-name = refl

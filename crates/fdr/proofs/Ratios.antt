@@ -1,4 +1,4 @@
--- The pass down the ranked rows: the first i keys hold their ratios, and the sum and the count are those up to row i. Assumes nothing.
+-- The pass down the ranked rows: the first i keys hold their ratios, and the sum and the count are those up to row i.
 use mathlib.Core.Path.{_≡_, refl, sym, ap, ap₂, _∙_, subst}
 use mathlib.Core.List.{List, _∷_, _++_, append-nil}
 use mathlib.Core.Bool.{Bool, true, false, cond}
@@ -12,14 +12,14 @@ use lib.IntN.{pos}
 use lib.ListN.{length, getD, take, drop, set, length-set, drop-of-length-le}
 use lib.Seq.{drop-cons, drop-set-lt, drop-drop, getD-drop, take-all}
 use lib.Ieee.{Float, binary32, binary64, add, div, ofInt, ofBits, toBits}
-use Rattle.folds.specs.Columns.{All}
-use Rattle.folds.proofs.Columns.{front-write, all-at}
+use Rattle.folds.specs.Lists.{All}
+use Rattle.folds.proofs.Writing.{front-write, all-at}
 use Rattle.floats.specs.Convert.{converted}
-use Rattle.floats.specs.Least.{lesser}
+use Rattle.floats.specs.MinMax.{minNumber}
 use Rattle.kde.specs.declared.Estimator.{Estimator}
 use Rattle.kde.specs.Estimate.{posteriorError}
 use Rattle.competition.specs.Tables.{Table}
-use Rattle.counting.specs.QValues.{one}
+use Rattle.floats.specs.Constants.{f32One}
 use Rattle.fdr.specs.QValues.{errorOf, ratiosFrom}
 use Rattle.fdr.specs.Passes.{scoreAt, sideOf, targetKeys, tagged, cappedFrom, Within}
 
@@ -28,7 +28,7 @@ pub record Summing (e : Estimator) (bins : List Float) (t : Table) (keys₀ : Li
   pub same : length keys ≡ length keys₀
   pub rest : drop i keys ≡ drop i keys₀
   pub count : target + targetKeys (drop i keys₀) ≡ targetKeys keys₀
-  pub is : take i keys ++ tagged (cappedFrom e bins t sum target (drop i keys₀)) (drop i keys₀) ≡ tagged (cappedFrom e bins t one 0 keys₀) keys₀
+  pub is : take i keys ++ tagged (cappedFrom e bins t sum target (drop i keys₀)) (drop i keys₀) ≡ tagged (cappedFrom e bins t f32One 0 keys₀) keys₀
 
 pub summing-start : (e : Estimator) (bins : List Float) (t : Table) (keys : List ℕ) → Summing e bins t keys 0 (ofBits binary32 1065353216) 0 keys
 summing-start e bins t keys = record { high = zero-le; same = refl; rest = refl; count = zero-add (targetKeys keys); is = refl }
@@ -66,7 +66,7 @@ summing-few e bins t keys₀ {i} {target = target} w h =
 pub summing-step : (e : Estimator) (bins : List Float) (t : Table) (keys₀ : List ℕ) {i : ℕ} {sum : Float} {target : ℕ} {keys : List ℕ}
     → Summing e bins t keys₀ i sum target keys → i < length keys₀ → (score wide error pep r : Float) (v : ℕ)
     → score ≡ scoreAt t (getD keys i 0 % 4294967296) → wide ≡ converted binary64 score → error ≡ posteriorError e bins wide → pep ≡ converted binary32 error
-    → r ≡ lesser (ofBits binary32 1065353216) (div binary32 (add binary32 sum pep) (ofInt binary32 (pos (target + (1 - getD keys i 0 % 4294967296 % 2)))))
+    → r ≡ minNumber (ofBits binary32 1065353216) (div binary32 (add binary32 sum pep) (ofInt binary32 (pos (target + (1 - getD keys i 0 % 4294967296 % 2)))))
     → v ≡ toBits binary32 r * 4294967296 + getD keys i 0 % 4294967296
     → Summing e bins t keys₀ (i + 1) (add binary32 sum pep) (target + (1 - getD keys i 0 % 4294967296 % 2)) (set keys i v)
 unfolding ratiosFrom tagged targetKeys
@@ -77,7 +77,7 @@ summing-step e bins t keys₀ {i} {sum} {target} {keys} w h score wide error pep
     let tail = drop (suc i) keys₀ in
     let split : drop i keys₀ ≡ k ∷ tail = drop-cons keys₀ i 0 h in
     let from-here : Float → ℕ → List ℕ =
-    λ more seen. (toBits binary32 (lesser one (div binary32 more (ofInt binary32 (pos seen)))) * 4294967296 + along) ∷ tagged (cappedFrom e bins t more seen tail) tail in
+    λ more seen. (toBits binary32 (minNumber f32One (div binary32 more (ofInt binary32 (pos seen)))) * 4294967296 + along) ∷ tagged (cappedFrom e bins t more seen tail) tail in
     let more-is : add binary32 sum pep ≡ add binary32 sum (errorOf e bins (sideOf t k)) =
     ap (add binary32 sum) (pep-is ∙ ap (converted binary32) (error-is ∙ ap (posteriorError e bins) (wide-is ∙ ap (converted binary64) (score-is ∙ ap (λ (x : ℕ). scoreAt t (x % 4294967296)) key)))) in
     record {
@@ -98,7 +98,7 @@ summing-step e bins t keys₀ {i} {sum} {target} {keys} w h score wide error pep
     }
 
 pub summing-done : (e : Estimator) (bins : List Float) (t : Table) (keys₀ : List ℕ) {i : ℕ} {sum : Float} {target : ℕ} {keys : List ℕ}
-    → Summing e bins t keys₀ i sum target keys → length keys₀ ≤ i → keys ≡ tagged (cappedFrom e bins t one 0 keys₀) keys₀
+    → Summing e bins t keys₀ i sum target keys → length keys₀ ≤ i → keys ≡ tagged (cappedFrom e bins t f32One 0 keys₀) keys₀
 unfolding ratiosFrom tagged
 summing-done e bins t keys₀ {i} {sum} {target} {keys} w h =
     sym (append-nil keys)

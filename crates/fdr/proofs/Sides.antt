@@ -1,5 +1,5 @@
 -- The seen sides of a table: each has its own number, which rises down their list, so that their keys in ascending order are those of the ranked
--- sides. At most one side of a slot is a target. Assumes nothing.
+-- sides. At most one side of a slot is a target.
 use mathlib.Core.Path.{_≡_, refl, sym, ap, ap₂, _∙_, subst}
 use mathlib.Core.List.{List, [], _∷_, _++_, map, map-map}
 use mathlib.Core.Logic.{inl, inr}
@@ -10,7 +10,7 @@ use native.Mathlib.Omega.{arith}
 use lib.Dec.{T, eqb, lit<}
 use lib.ListN.{length, getD, length-map}
 use lib.Ieee.{nan, binary32, fits}
-use Rattle.folds.specs.Columns.{All}
+use Rattle.folds.specs.Lists.{All}
 use Rattle.floats.specs.TotalOrder.{orderKey}
 use Rattle.folds.proofs.Tests.{lt-or-ge}
 use Rattle.columns.specs.Refusals.{longest}

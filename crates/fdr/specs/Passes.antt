@@ -7,8 +7,8 @@ use lib.Dec.{T, eqb}
 use lib.IntN.{ℤ}
 use lib.ListN.{length, getD, set}
 use lib.Ieee.{Float, nan, binary32, isNan, ofBits, toBits}
-use Rattle.folds.specs.Columns.{All}
-use Rattle.floats.specs.Least.{lesser}
+use Rattle.folds.specs.Lists.{All}
+use Rattle.floats.specs.MinMax.{minNumber}
 use Rattle.columns.specs.Refusals.{longest}
 use Rattle.counting.specs.Labels.{isDecoy, bitLabel}
 use Rattle.ranking.specs.Keys.{packed}
@@ -16,7 +16,7 @@ use Rattle.kde.specs.declared.Estimator.{Estimator}
 use Rattle.competition.specs.Tables.{Table, noPart, allAllowed}
 use Rattle.fdr.specs.declared.Names.{Names}
 use Rattle.fdr.specs.Rows.{Side}
-use Rattle.counting.specs.QValues.{one}
+use Rattle.floats.specs.Constants.{f32One}
 use Rattle.fdr.specs.QValues.{ratiosFrom, nameOf}
 
 -- ---- a side's key: its score above, and along with it twice its slot, and one more for a decoy
@@ -60,7 +60,7 @@ labelOf key = bitLabel (key % 4294967296)
 
 -- the ratios of the keys' sides, from a sum and a count on; a ratio above 1.0 and a NaN stand as 1.0, and a minimum that starts there comes out the same
 abbrev pub cappedFrom : Estimator → List Float → Table → Float → ℕ → List ℕ → List Float
-cappedFrom e bins t sum targets keys = map (lesser one) (ratiosFrom e bins sum targets (map (sideOf t) keys))
+cappedFrom e bins t sum targets keys = map (minNumber f32One) (ratiosFrom e bins sum targets (map (sideOf t) keys))
 
 -- ---- the names' column
 
@@ -71,7 +71,7 @@ named names (k ∷ ks) column =
     let along = k % 4294967296 in named names ks (set column (nameOf names (along / 2) (eqb (along % 2) 1)) (k / 4294967296))
 
 abbrev pub rowOf : Names → List ℕ → ℕ → ℤ → Float
-rowOf names column slot label = cond (eqb slot noPart) one (ofBits binary32 (getD column (nameOf names slot (isDecoy label)) 0))
+rowOf names column slot label = cond (eqb slot noPart) f32One (ofBits binary32 (getD column (nameOf names slot (isDecoy label)) 0))
 
 -- ---- what passes ask
 

@@ -7,7 +7,7 @@ use lib.Dec.{leb, eqb}
 use lib.IntN.{ℤ, pos, negsuc}
 use lib.ListN.{length, getD}
 use lib.Ieee.{Float, nan, binary32, binary64, ofInt, add, div}
-use Rattle.folds.specs.Columns.{filled, tabulated}
+use Rattle.folds.specs.Lists.{filled, tabulated}
 use Rattle.floats.specs.Convert.{converted}
 use Rattle.floats.specs.Ratio.{oneIn}
 use Rattle.columns.specs.Refusals.{longest, ifAccepted}
@@ -18,7 +18,8 @@ use Rattle.columns.specs.declared.Counted.{Counted}
 use Rattle.columns.specs.declared.Counted.the-variants.{Passing, Refused}
 use Rattle.columns.specs.declared.Refusal.the-variants.{TooLong, WrongLength, OutOfRange, NoSuchSlot}
 use Rattle.counting.specs.Labels.{isDecoy}
-use Rattle.counting.specs.QValues.{one, lows, targetsAtMost}
+use Rattle.floats.specs.Constants.{f32One}
+use Rattle.counting.specs.QValues.{runningMinimum, targetsAtMost}
 use Rattle.kde.specs.declared.Estimator.{Estimator}
 use Rattle.kde.specs.Answers.{inRange}
 use Rattle.kde.specs.Estimate.{posteriorError}
@@ -42,8 +43,8 @@ ratiosFrom e bins sum targets (s ∷ ss) =
 
 -- "that starts at 1.0"; "then the minimum from the bottom starting at 1.0"
 unfoldable pub sideQ : Estimator → List Float → List Side → List Float
-unfolding ratiosFrom lows
-sideQ e bins sides = lows (ratiosFrom e bins one 0 sides)
+unfolding ratiosFrom runningMinimum
+sideQ e bins sides = runningMinimum (ratiosFrom e bins f32One 0 sides)
 
 -- a side as a label: −1 for a decoy
 abbrev pub sideLabel : Side → ℤ
@@ -69,7 +70,7 @@ qOf names (s ∷ ss) (x ∷ xs) name q = qOf names ss xs name (cond (eqb (nameOf
 
 -- "Each feature row gets the q of its slot's side; 1.0 if its name was never ranked. Rows that take no part get 1.0"
 abbrev pub rowQ : Names → List Side → List Float → ℕ → ℤ → Float
-rowQ names sides qs slot label = cond (eqb slot noPart) one (qOf names sides qs (nameOf names slot (isDecoy label)) one)
+rowQ names sides qs slot label = cond (eqb slot noPart) f32One (qOf names sides qs (nameOf names slot (isDecoy label)) f32One)
 
 -- every feature row's q-value
 unfoldable pub rowsQ : Names → Estimator → List Float → Table → List ℕ → List ℤ → List Float

@@ -8,10 +8,11 @@ ghost use lib.Dec.{T, leb, eqb};
 ghost use lib.IntN.{pos};
 ghost use lib.ListN.{length, take, getD};
 ghost use lib.Ieee.{binary32, isNan, toBits};
-ghost use Rattle.folds.specs.Columns.{filled, tabulated, All};
+ghost use Rattle.folds.specs.Lists.{filled, tabulated, All};
 ghost use Rattle.floats.specs.Ratio.{oneIn};
 ghost use Rattle.columns.specs.Refusals.{longest};
-ghost use Rattle.counting.specs.QValues.{one, lows, targetsAtMost};
+ghost use Rattle.floats.specs.Constants.{f32One};
+ghost use Rattle.counting.specs.QValues.{runningMinimum, targetsAtMost};
 ghost use Rattle.ranking.specs.Keys.{sorted};
 ghost use Rattle.competition.specs.Tables.{isSeen, tableOf};
 ghost use Rattle.fdr.specs.Rows.{seenSides};
@@ -103,7 +104,7 @@ fn write_ratios(
     keys: &mut [u64],
 )
     requires { ⌜ Ratable (length (now bins)) (length (now forward)) (length (now reverse)) (now keys) ⌝ }
-    ensures { λ _. ⌜ now (keys .exit) ≡ tagged (cappedFrom estimator (now (bins .entry)) (tableOf (now (forward .entry)) (now (reverse .entry)) [] []) one 0 (now (keys .entry))) (now (keys .entry)) ⌝ }
+    ensures { λ _. ⌜ now (keys .exit) ≡ tagged (cappedFrom estimator (now (bins .entry)) (tableOf (now (forward .entry)) (now (reverse .entry)) [] []) f32One 0 (now (keys .entry))) (now (keys .entry)) ⌝ }
 {
     let mut decoy: f32 = 1.0;
     let mut target: u32 = 0;
@@ -120,8 +121,8 @@ fn write_ratios(
 // From the last row up: the least ratio so far takes the ratio's place. Counts the targets at or under 0.01.
 fn take_minima(keys: &mut [u64]) -> usize
     requires { ⌜ All Tagged (now keys) ⌝ }
-    ensures count { λ r. ⌜ r ≡ targetsAtMost (oneIn 100) (map labelOf (now (keys .entry))) (lows (map floatOf (now (keys .entry)))) ⌝ }
-    ensures keys { λ _. ⌜ now (keys .exit) ≡ tagged (lows (map floatOf (now (keys .entry)))) (now (keys .entry)) ⌝ }
+    ensures count { λ r. ⌜ r ≡ targetsAtMost (oneIn 100) (map labelOf (now (keys .entry))) (runningMinimum (map floatOf (now (keys .entry)))) ⌝ }
+    ensures keys { λ _. ⌜ now (keys .exit) ≡ tagged (runningMinimum (map floatOf (now (keys .entry)))) (now (keys .entry)) ⌝ }
 {
     let mut q_min: f32 = 1.0;
     let mut passing: usize = 0;

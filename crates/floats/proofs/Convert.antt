@@ -1,5 +1,5 @@
 -- The ends of Rust's `as` to an unsigned integer: 0 for what is not above −1, a NaN included, and the greatest number for what is
--- not below 2^w. Between the two the conversion only cuts the fraction off. Assumes nothing.
+-- not below 2^w. Between the two the conversion only cuts the fraction off.
 use mathlib.Core.Path.{_≡_, refl}
 use mathlib.Core.Bool.{true, false, true≢false, false≢true}
 use Prim.Native.Nat.{ℕ, _+_, _-_, _*_, _/_, _^_, _≤_}

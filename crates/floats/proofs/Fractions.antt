@@ -1,5 +1,5 @@
 -- Operations and comparisons of finite floats by the fractions that they equal: where x is ±a/c and y is ±b/d, a comparison is
--- that of a·d with b·c, and an operation is one rounding of the exact result, however the two floats are written. Assumes nothing.
+-- that of a·d with b·c, and an operation is one rounding of the exact result, however the two floats are written.
 use mathlib.Core.Path.{_≡_, refl, sym, ap, ap₂, _∙_}
 use mathlib.Core.Bool.{Bool, true, false, not, _&&_, _||_, Bool·beq, cond}
 use Prim.Native.Nat.{ℕ, zero, suc, _+_, _-_, _*_, _^_, _≤_, _<_}

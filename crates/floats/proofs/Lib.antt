@@ -7,7 +7,7 @@ pub mod Narrowed
 pub mod Widening
 pub mod Whole
 pub mod Convert
-pub mod Least
+pub mod MinMax
 pub mod Order
 pub mod TotalOrder
 pub mod Ratio

@@ -1,5 +1,5 @@
 -- What `narrow` works out, as floats: below the end of f32 the sum of the magnitude and the power of two, less that power, is the
--- magnitude converted; from there on an infinity is; and the sign goes on last. Assumes nothing.
+-- magnitude converted; from there on an infinity is; and the sign goes on last.
 use mathlib.Core.Path.{_≡_, refl, sym, ap, _∙_}
 use mathlib.Core.Logic.{inl, inr}
 use Prim.Native.Nat.{ℕ, zero, suc, _+_, _-_, _*_, _/_, _^_, _≤_, _<_, max}
@@ -16,7 +16,7 @@ use lib.Ieee.Exact.{HasValue}
 use lib.Ieee.Scale.{round-same}
 use Rattle.folds.proofs.Tests.{lt-or-ge}
 use Rattle.floats.specs.Convert.{converted}
-use Rattle.floats.specs.Least.{greater}
+use Rattle.floats.specs.MinMax.{maxNumber}
 use Rattle.floats.specs.Signs.{negative, absolute}
 use Rattle.floats.proofs.Values.{unitsOf, fitting, units-value}
 use Rattle.floats.proofs.Fractions.{lt-values, le-values, neg-round}
@@ -68,9 +68,9 @@ unit-value n h =
     rw e at (power (n + 28) (omega arith))
 
 -- of two such powers the greater has the greater field
-pub greater-unit : (n : ℕ) → n ≤ 1150 → greater (unitAt 897) (unitAt n) ≡ unitAt (max 897 n)
-unfolding greater ofBits
-greater-unit n h =
+pub max-unit : (n : ℕ) → n ≤ 1150 → maxNumber (unitAt 897) (unitAt n) ≡ unitAt (max 897 n)
+unfolding maxNumber ofBits
+max-unit n h =
     let A = 4503599627370496 * 2 ^ 925 in
     let B = 4503599627370496 * 2 ^ (n + 28) in
     let e = lt-values (unitAt 897) (unitAt n) A B (2 ^ 1074) (pow-pos 1074) (unit-value 897 (lit≤ tt)) (unit-value n h) in

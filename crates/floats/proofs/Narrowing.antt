@@ -1,6 +1,6 @@
 -- Narrowing by a sum. A magnitude is N units of 2 ^ -1074, the smallest f64. Its f32 keeps 24 digits, or what lies above 2 ^ -149: that is
 -- rounding N to a multiple of 2 ^ (925 + i) units. Adding 2 ^ 52 such multiples leaves an f64 no digit below them, so the sum rounds just
--- there, and, 2 ^ 52 being even, ties go where narrowing has them go. Assumes nothing.
+-- there, and, 2 ^ 52 being even, ties go where narrowing has them go.
 use mathlib.Core.Path.{_≡_, refl, sym, ap, _∙_, subst}
 use mathlib.Core.Logic.{_⊎_, inl, inr}
 use Prim.Native.Nat.{ℕ, suc, _+_, _-_, _*_, _/_, _%_, _^_, _≤_, _<_, compare, Ordering, Ordering·lt, Ordering·eq, Ordering·gt}

@@ -1,5 +1,5 @@
 -- The order of all floats. A finite value is a difference of two naturals over a denominator, so that `<`, `==` and `<=` are those
--- of cross-multiplied sums; from that `<=` is transitive, and off the NaN `x < y` is the opposite of `y <= x`. The rest follows. Assumes nothing.
+-- of cross-multiplied sums; from that `<=` is transitive, and off the NaN `x < y` is the opposite of `y <= x`. The rest follows.
 use mathlib.Core.Path.{_≡_, refl, sym, _∙_}
 use mathlib.Core.Logic.{_⊎_, inl, inr}
 use mathlib.Core.Bool.{Bool, true, false, not, _&&_, _||_, cond, and-true, false≢true}
@@ -13,7 +13,7 @@ use lib.Ieee.{Float, nan, inf, fin, isNan, up, down, below, level, lt, eq, le}
 use lib.Ieee.Fits.{and-i, and-l, and-r, eq→eqb, down-pos}
 use denote.Floats.{passes}
 use Rattle.folds.proofs.Tests.{same-test, yes-or-no, or-l, or-r, or-split}
-use Rattle.floats.specs.Least.{lesser, greater}
+use Rattle.floats.specs.MinMax.{minNumber, maxNumber}
 
 -- ---- tests
 
@@ -234,62 +234,62 @@ upper a b c p = go (lt a b) refl
     go false e = or-is-left (le c a) (le c b) (λ q. le-trans c b a q (not-lt→le a b p (le-right c b q) e))
 
 -- the NaN included: it is at most nothing
-pub le-lesser : (a b c : Float) → le (lesser a b) c ≡ (le a c || le b c)
-unfolding lesser isNan
-le-lesser nan b c = unfold le in refl
-le-lesser (inf s) b c = lower (inf s) b c tt
-le-lesser (fin s m e) b c = lower (fin s m e) b c tt
+pub le-min : (a b c : Float) → le (minNumber a b) c ≡ (le a c || le b c)
+unfolding minNumber isNan
+le-min nan b c = unfold le in refl
+le-min (inf s) b c = lower (inf s) b c tt
+le-min (fin s m e) b c = lower (fin s m e) b c tt
 
-pub le-greater : (a b c : Float) → le c (greater a b) ≡ (le c a || le c b)
-unfolding greater isNan
-le-greater nan b c = rw le-nan
-le-greater (inf s) b c = upper (inf s) b c tt
-le-greater (fin s m e) b c = upper (fin s m e) b c tt
+pub le-max : (a b c : Float) → le c (maxNumber a b) ≡ (le c a || le c b)
+unfolding maxNumber isNan
+le-max nan b c = rw le-nan
+le-max (inf s) b c = upper (inf s) b c tt
+le-max (fin s m e) b c = upper (fin s m e) b c tt
 
-pub lesser-nan : (a : Float) → lesser a nan ≡ a
-unfolding lesser
-lesser-nan nan = refl
-lesser-nan (inf s) = refl
-lesser-nan (fin s m e) = refl
+pub min-nan : (a : Float) → minNumber a nan ≡ a
+unfolding minNumber
+min-nan nan = refl
+min-nan (inf s) = refl
+min-nan (fin s m e) = refl
 
-pub nan-lesser : (b : Float) → lesser nan b ≡ b
-unfolding lesser
-nan-lesser b = refl
+pub nan-min : (b : Float) → minNumber nan b ≡ b
+unfolding minNumber
+nan-min b = refl
 
-pub greater-nan : (a : Float) → greater a nan ≡ a
-unfolding greater
-greater-nan nan = refl
-greater-nan (inf s) = refl
-greater-nan (fin s m e) = refl
+pub max-nan : (a : Float) → maxNumber a nan ≡ a
+unfolding maxNumber
+max-nan nan = refl
+max-nan (inf s) = refl
+max-nan (fin s m e) = refl
 
-pub nan-greater : (b : Float) → greater nan b ≡ b
-unfolding greater
-nan-greater b = refl
+pub nan-max : (b : Float) → maxNumber nan b ≡ b
+unfolding maxNumber
+nan-max b = refl
 
 one-of : (t : Bool) (a b : Float) → (cond t b a ≡ a) ⊎ (cond t b a ≡ b)
 one-of true a b = inr refl
 one-of false a b = inl refl
 
-pub lesser-either : (a b : Float) → (lesser a b ≡ a) ⊎ (lesser a b ≡ b)
-unfolding lesser
-lesser-either nan b = inr refl
-lesser-either (inf s) b = one-of (lt b (inf s)) (inf s) b
-lesser-either (fin s m e) b = one-of (lt b (fin s m e)) (fin s m e) b
+pub min-either : (a b : Float) → (minNumber a b ≡ a) ⊎ (minNumber a b ≡ b)
+unfolding minNumber
+min-either nan b = inr refl
+min-either (inf s) b = one-of (lt b (inf s)) (inf s) b
+min-either (fin s m e) b = one-of (lt b (fin s m e)) (fin s m e) b
 
-pub greater-either : (a b : Float) → (greater a b ≡ a) ⊎ (greater a b ≡ b)
-unfolding greater
-greater-either nan b = inr refl
-greater-either (inf s) b = one-of (lt (inf s) b) (inf s) b
-greater-either (fin s m e) b = one-of (lt (fin s m e) b) (fin s m e) b
+pub max-either : (a b : Float) → (maxNumber a b ≡ a) ⊎ (maxNumber a b ≡ b)
+unfolding maxNumber
+max-either nan b = inr refl
+max-either (inf s) b = one-of (lt (inf s) b) (inf s) b
+max-either (fin s m e) b = one-of (lt (fin s m e) b) (fin s m e) b
 
-pub lesser-le-left : (a b : Float) → T (not (isNan a)) → T (le (lesser a b) a)
-lesser-le-left a b p = rw le-lesser (or-l (le a a) (le b a) (le-refl a p))
+pub min-le-left : (a b : Float) → T (not (isNan a)) → T (le (minNumber a b) a)
+min-le-left a b p = rw le-min (or-l (le a a) (le b a) (le-refl a p))
 
-pub lesser-le-right : (a b : Float) → T (not (isNan b)) → T (le (lesser a b) b)
-lesser-le-right a b p = rw le-lesser (or-r (le a b) (le b b) (le-refl b p))
+pub min-le-right : (a b : Float) → T (not (isNan b)) → T (le (minNumber a b) b)
+min-le-right a b p = rw le-min (or-r (le a b) (le b b) (le-refl b p))
 
-pub greater-ge-left : (a b : Float) → T (not (isNan a)) → T (le a (greater a b))
-greater-ge-left a b p = rw le-greater (or-l (le a a) (le a b) (le-refl a p))
+pub max-ge-left : (a b : Float) → T (not (isNan a)) → T (le a (maxNumber a b))
+max-ge-left a b p = rw le-max (or-l (le a a) (le a b) (le-refl a p))
 
-pub greater-ge-right : (a b : Float) → T (not (isNan b)) → T (le b (greater a b))
-greater-ge-right a b p = rw le-greater (or-r (le b a) (le b b) (le-refl b p))
+pub max-ge-right : (a b : Float) → T (not (isNan b)) → T (le b (maxNumber a b))
+max-ge-right a b p = rw le-max (or-r (le b a) (le b b) (le-refl b p))

@@ -1,5 +1,5 @@
 -- Ratios of two counts, as f32. Counts up to 2^24 are f32 exactly, so their ratio is one rounding of the true ratio, and rounding
--- keeps the order: whether a ratio d/t is at most the f32 nearest to 1/k is then the question of whole numbers whether k·d ≤ t. Assumes nothing.
+-- keeps the order: whether a ratio d/t is at most the f32 nearest to 1/k is then the question of whole numbers whether k·d ≤ t.
 use mathlib.Core.Path.{_≡_, refl, _∙_}
 use mathlib.Core.Bool.{Bool, true, false}
 use Prim.Native.Nat.{ℕ, zero, suc, _+_, _-_, _*_, _^_, _≤_, _<_}

@@ -1,5 +1,5 @@
 -- The total order of floats, and the keys that stand as it does. A key is the sign with the magnitude's bits, and those bits grow with the
--- magnitude: weakly since a number's leading digits do, and strictly since the bits tell the value. Assumes nothing.
+-- magnitude: weakly since a number's leading digits do, and strictly since the bits tell the value.
 use mathlib.Core.Path.{_≡_, refl, sym, ap, ap₂, _∙_}
 use mathlib.Core.Logic.{_⊎_, inl, inr}
 use mathlib.Core.Bool.{Bool, true, false, not, _&&_, _||_, cond, and-true, and-false, or-false}

@@ -1,5 +1,5 @@
 -- A finite value of a format is a whole number of the format's smallest values, its units. A format has one value for each sign and
--- number, since the bits are worked out from the sign and the units alone; so rounding a value of the format gives it back. Assumes nothing.
+-- number, since the bits are worked out from the sign and the units alone; so rounding a value of the format gives it back.
 use mathlib.Core.Path.{_≡_, refl, sym, ap, _∙_, subst}
 use Prim.Native.Nat.{ℕ, zero, suc, _+_, _-_, _*_, _/_, _%_, _^_, _≤_, _<_}
 use native.Mathlib.Nat.{le-of-suc-le-suc, lt-of-not-le, lt-of-lt-of-le, lt-irrefl, mul-one, one-mul, mul-comm, mul-assoc, mul-right-comm, mul-pos, zero-mul, mul-div-cancel, eq-of-mul-eq-mul-right, lt-of-mul-lt-mul-right, mul-lt-mul-of-pos-right}

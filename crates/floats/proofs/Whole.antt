@@ -1,5 +1,5 @@
 -- Floor and ceiling. A float of 2^(prec − 1) or more in size is whole. A smaller one is cut to a whole number that the format
--- holds exactly, and below zero a fraction takes one more away: so the code gives what `floored` says. Assumes nothing.
+-- holds exactly, and below zero a fraction takes one more away: so the code gives what `floored` says.
 use mathlib.Core.Path.{_≡_, refl, sym, ap, _∙_, subst}
 use mathlib.Core.Bool.{Bool, true, false, not, _&&_, _||_, Bool·beq, cond, true≢false, false≢true}
 use Prim.Native.Nat.{ℕ, zero, suc, _+_, _-_, _*_, _/_, _^_, _≤_, _<_, min}

@@ -1,4 +1,4 @@
--- A value that the format holds is converted to itself. Assumes nothing.
+-- A value that the format holds is converted to itself.
 use mathlib.Core.Path.{_≡_, refl}
 use lib.Dec.{T}
 use lib.Ieee.{Float, nan, inf, fin, Format, binary32, binary64, fits}

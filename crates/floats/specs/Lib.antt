@@ -1,6 +1,7 @@
+pub mod Constants
 pub mod Signs
 pub mod Convert
 pub mod Whole
-pub mod Least
+pub mod MinMax
 pub mod TotalOrder
 pub mod Ratio

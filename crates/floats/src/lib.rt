@@ -7,7 +7,7 @@ ghost use lib.Ieee.{binary32, binary64, toUnsigned, isNan};
 ghost use Rattle.floats.specs.Signs.{negative};
 ghost use Rattle.floats.specs.Convert.{converted};
 ghost use Rattle.floats.specs.Whole.{floored, ceiled};
-ghost use Rattle.floats.specs.Least.{lesser, greater};
+ghost use Rattle.floats.specs.MinMax.{minNumber, maxNumber};
 ghost use Rattle.floats.specs.TotalOrder.{compared, orderKey};
 
 // The f32 nearest to a magnitude, ties to even, as an f64.
@@ -137,7 +137,7 @@ pub fn ceil_f32(x: f32) -> f32
 
 // Rust's a.min(b), with `a` accumulated: a NaN is ignored, and of two zeros the first is kept.
 pub fn min_f64(a: f64, b: f64) -> f64
-    ensures { λ r. ⌜ r ≡ lesser a b ⌝ }
+    ensures { λ r. ⌜ r ≡ minNumber a b ⌝ }
 {
     if b < a {
         return b;
@@ -149,7 +149,7 @@ pub fn min_f64(a: f64, b: f64) -> f64
 }
 
 pub fn min_f32(a: f32, b: f32) -> f32
-    ensures { λ r. ⌜ r ≡ lesser a b ⌝ }
+    ensures { λ r. ⌜ r ≡ minNumber a b ⌝ }
 {
     if b < a {
         return b;
@@ -162,7 +162,7 @@ pub fn min_f32(a: f32, b: f32) -> f32
 
 // Rust's a.max(b), with `a` accumulated: a NaN is ignored, and of two zeros the first is kept.
 pub fn max_f64(a: f64, b: f64) -> f64
-    ensures { λ r. ⌜ r ≡ greater a b ⌝ }
+    ensures { λ r. ⌜ r ≡ maxNumber a b ⌝ }
 {
     if a < b {
         return b;
@@ -174,7 +174,7 @@ pub fn max_f64(a: f64, b: f64) -> f64
 }
 
 pub fn max_f32(a: f32, b: f32) -> f32
-    ensures { λ r. ⌜ r ≡ greater a b ⌝ }
+    ensures { λ r. ⌜ r ≡ maxNumber a b ⌝ }
 {
     if a < b {
         return b;

@@ -1,3 +1,3 @@
 pub mod Tests
 pub mod Walks
-pub mod Columns
+pub mod Writing

@@ -1,4 +1,4 @@
--- Tests, which are Bools, and what they say. Assumes nothing.
+-- Tests, which are Bools, and what they say.
 use mathlib.Core.Path.{_≡_, refl}
 use mathlib.Core.Logic.{_⊎_, inl, inr}
 use Prim.Native.Nat.{ℕ, _≤_, _<_}

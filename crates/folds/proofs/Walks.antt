@@ -1,5 +1,5 @@
 -- The invariants of loops that walk a range, as records whose parameters are inferred: what is left to do of the walk, from the state at
--- hand, gives what the whole walk gives. A loop opens with `start`, takes a turn by `step`, and ends by `done`. Assumes nothing.
+-- hand, gives what the whole walk gives. A loop opens with `start`, takes a turn by `step`, and ends by `done`.
 use mathlib.Core.Path.{_≡_, refl, sym, ap, _∙_, subst}
 use mathlib.Core.Logic.{_⊎_, inl, inr}
 use Prim.Native.Nat.{ℕ, zero, suc, _+_, _-_, _≤_, _<_, zero-le}
@@ -10,7 +10,7 @@ use mathlib.Core.Bool.{Bool, true, false, cond}
 use lib.Dec.{T}
 use lib.Ieee.Fits.{and-l, and-r}
 use Rattle.folds.proofs.Tests.{lt-or-ge, no-truth}
-use Rattle.folds.specs.Walks.{steps, across, down, first, seek, every}
+use Rattle.folds.specs.Walks.{steps, forRange, forRangeDown, first, findInRange, every}
 
 none-left : (j n : ℕ) → n ≤ j → n - j ≡ 0
 none-left j n h = omega arith
@@ -23,7 +23,7 @@ one-less j n h = omega arith
 pub record Walk {S : Type 0} (f : ℕ → S → S) (a j n : ℕ) (s₀ s : S) : Type 0 where
   pub low : a ≤ j
   pub high : j ≤ n
-  pub is : across f j n s ≡ across f a n s₀
+  pub is : forRange f j n s ≡ forRange f a n s₀
 
 module _ {S : Type 0} (f : ℕ → S → S) where
   steps-none : (a k : ℕ) (s : S) → k ≡ 0 → steps f a k s ≡ s
@@ -38,11 +38,11 @@ module _ {S : Type 0} (f : ℕ → S → S) where
   unfolding steps
   steps-more a k l s e = ap (λ (x : ℕ). steps f a x s) e
 
-  pub across-step : (j n : ℕ) (s : S) → j < n → across f j n s ≡ across f (j + 1) n (f j s)
-  across-step j n s h = steps-more j (n - j) (n - suc j) s (one-less j n h) ∙ ap (λ (x : ℕ). steps f x (n - x) (f j s)) (sym (add-one j))
+  pub for-range-step : (j n : ℕ) (s : S) → j < n → forRange f j n s ≡ forRange f (j + 1) n (f j s)
+  for-range-step j n s h = steps-more j (n - j) (n - suc j) s (one-less j n h) ∙ ap (λ (x : ℕ). steps f x (n - x) (f j s)) (sym (add-one j))
 
-  pub across-done : (j n : ℕ) (s : S) → n ≤ j → across f j n s ≡ s
-  across-done j n s h = steps-none j (n - j) s (none-left j n h)
+  pub for-range-done : (j n : ℕ) (s : S) → n ≤ j → forRange f j n s ≡ s
+  for-range-done j n s h = steps-none j (n - j) s (none-left j n h)
 
 pub start : {S : Type 0} {f : ℕ → S → S} {a n : ℕ} {s : S} → a ≤ n → Walk f a a n s s
 start {a = a} h = record { low = le-refl a; high = h; is = refl }
@@ -50,46 +50,46 @@ start {a = a} h = record { low = le-refl a; high = h; is = refl }
 pub step : {S : Type 0} {f : ℕ → S → S} {a j n : ℕ} {s₀ s : S} → Walk f a j n s₀ s → j < n → Walk f a (j + 1) n s₀ (f j s)
 step {f = f} {j = j} {n = n} {s = s} w h =
     let l = w .low in
-    record { low = omega arith; high = omega arith; is = sym (across-step f j n s h) ∙ w .is }
+    record { low = omega arith; high = omega arith; is = sym (for-range-step f j n s h) ∙ w .is }
 
 -- a turn whose new state is f's by an equation
 pub step-by : {S : Type 0} {f : ℕ → S → S} {a j n : ℕ} {s₀ s t : S} → Walk f a j n s₀ s → j < n → t ≡ f j s → Walk f a (j + 1) n s₀ t
 step-by {S} {f} {a} {j} {n} {s₀} w h e = subst (λ (x : S). Walk f a (j + 1) n s₀ x) (sym e) (step w h)
 
-pub done : {S : Type 0} {f : ℕ → S → S} {a j n : ℕ} {s₀ s : S} → Walk f a j n s₀ s → n ≤ j → s ≡ across f a n s₀
-done {f = f} {j = j} {n = n} {s = s} w h = sym (across-done f j n s h) ∙ w .is
+pub done : {S : Type 0} {f : ℕ → S → S} {a j n : ℕ} {s₀ s : S} → Walk f a j n s₀ s → n ≤ j → s ≡ forRange f a n s₀
+done {f = f} {j = j} {n = n} {s = s} w h = sym (for-range-done f j n s h) ∙ w .is
 
 -- ---- downwards
 
-pub record Fall {S : Type 0} (f : ℕ → S → S) (i n : ℕ) (s₀ s : S) : Type 0 where
+pub record WalkDown {S : Type 0} (f : ℕ → S → S) (i n : ℕ) (s₀ s : S) : Type 0 where
   pub high : i ≤ n
-  pub is : down f i s ≡ down f n s₀
+  pub is : forRangeDown f i s ≡ forRangeDown f n s₀
 
-pub fall-start : {S : Type 0} {f : ℕ → S → S} {n : ℕ} {s : S} → Fall f n n s s
-fall-start {n = n} = record { high = le-refl n; is = refl }
+pub walk-down-start : {S : Type 0} {f : ℕ → S → S} {n : ℕ} {s : S} → WalkDown f n n s s
+walk-down-start {n = n} = record { high = le-refl n; is = refl }
 
-down-more : {S : Type 0} (f : ℕ → S → S) (j : ℕ) (s : S) → down f (suc j) s ≡ down f j (f j s)
-unfolding down
-down-more f j s = refl
+for-range-down-more : {S : Type 0} (f : ℕ → S → S) (j : ℕ) (s : S) → forRangeDown f (suc j) s ≡ forRangeDown f j (f j s)
+unfolding forRangeDown
+for-range-down-more f j s = refl
 
-down-none : {S : Type 0} (f : ℕ → S → S) (s : S) → down f 0 s ≡ s
-unfolding down
-down-none f s = refl
+for-range-down-none : {S : Type 0} (f : ℕ → S → S) (s : S) → forRangeDown f 0 s ≡ s
+unfolding forRangeDown
+for-range-down-none f s = refl
 
-pub fall-step : {S : Type 0} {f : ℕ → S → S} {i n : ℕ} {s₀ s : S} (j : ℕ) → Fall f i n s₀ s → i ≡ j + 1 → Fall f j n s₀ (f j s)
-fall-step {f = f} {i = i} {s = s} j w e =
+pub walk-down-step : {S : Type 0} {f : ℕ → S → S} {i n : ℕ} {s₀ s : S} (j : ℕ) → WalkDown f i n s₀ s → i ≡ j + 1 → WalkDown f j n s₀ (f j s)
+walk-down-step {f = f} {i = i} {s = s} j w e =
     let l = w .high in
-    record { high = omega arith; is = sym (down-more f j s) ∙ ap (λ (x : ℕ). down f x s) (sym (e ∙ add-one j)) ∙ w .is }
+    record { high = omega arith; is = sym (for-range-down-more f j s) ∙ ap (λ (x : ℕ). forRangeDown f x s) (sym (e ∙ add-one j)) ∙ w .is }
 
-pub fall-done : {S : Type 0} {f : ℕ → S → S} {i n : ℕ} {s₀ s : S} → Fall f i n s₀ s → i ≡ 0 → s ≡ down f n s₀
-fall-done {f = f} {s = s} w e = sym (down-none f s) ∙ ap (λ (x : ℕ). down f x s) (sym e) ∙ w .is
+pub walk-down-done : {S : Type 0} {f : ℕ → S → S} {i n : ℕ} {s₀ s : S} → WalkDown f i n s₀ s → i ≡ 0 → s ≡ forRangeDown f n s₀
+walk-down-done {f = f} {s = s} w e = sym (for-range-down-none f s) ∙ ap (λ (x : ℕ). forRangeDown f x s) (sym e) ∙ w .is
 
 -- ---- a search
 
-pub record Sought (p : ℕ → Bool) (a j n : ℕ) : Type 0 where
+pub record Finding (p : ℕ → Bool) (a j n : ℕ) : Type 0 where
   pub low : a ≤ j
   pub high : j ≤ n
-  pub is : seek p j n ≡ seek p a n
+  pub is : findInRange p j n ≡ findInRange p a n
 
 first-more : (p : ℕ → Bool) (a k l : ℕ) → k ≡ suc l → first p a k ≡ cond (p a) a (first p (suc a) l)
 unfolding first
@@ -99,11 +99,11 @@ first-none : (p : ℕ → Bool) (a k : ℕ) → k ≡ 0 → first p a k ≡ a
 unfolding first
 first-none p a k e = ap (first p a) e
 
-pub sought-start : {p : ℕ → Bool} {a n : ℕ} → a ≤ n → Sought p a a n
-sought-start {a = a} h = record { low = le-refl a; high = h; is = refl }
+pub finding-start : {p : ℕ → Bool} {a n : ℕ} → a ≤ n → Finding p a a n
+finding-start {a = a} h = record { low = le-refl a; high = h; is = refl }
 
-pub sought-step : {p : ℕ → Bool} {a j n : ℕ} → Sought p a j n → j < n → p j ≡ false → Sought p a (j + 1) n
-sought-step {p} {a} {j} {n} w h e =
+pub finding-step : {p : ℕ → Bool} {a j n : ℕ} → Finding p a j n → j < n → p j ≡ false → Finding p a (j + 1) n
+finding-step {p} {a} {j} {n} w h e =
     let l = w .low in
     record {
       low = omega arith;
@@ -114,14 +114,14 @@ sought-step {p} {a} {j} {n} w h e =
           ∙ w .is;
     }
 
-pub sought-found : {p : ℕ → Bool} {a j n : ℕ} → Sought p a j n → j < n → p j ≡ true → j ≡ seek p a n
-sought-found {p} {a} {j} {n} w h e =
+pub finding-found : {p : ℕ → Bool} {a j n : ℕ} → Finding p a j n → j < n → p j ≡ true → j ≡ findInRange p a n
+finding-found {p} {a} {j} {n} w h e =
     sym (ap (λ (b : Bool). cond b j (first p (suc j) (n - suc j))) e)
     ∙ sym (first-more p j (n - j) (n - suc j) (one-less j n h))
     ∙ w .is
 
-pub sought-none : {p : ℕ → Bool} {a j n : ℕ} → Sought p a j n → n ≤ j → j ≡ seek p a n
-sought-none {p} {a} {j} {n} w h = sym (first-none p j (n - j) (none-left j n h)) ∙ w .is
+pub finding-none : {p : ℕ → Bool} {a j n : ℕ} → Finding p a j n → n ≤ j → j ≡ findInRange p a n
+finding-none {p} {a} {j} {n} w h = sym (first-none p j (n - j) (none-left j n h)) ∙ w .is
 
 -- ---- all of them
 
@@ -179,8 +179,8 @@ module _ {S : Type 0} (f : ℕ → S → S) where
       let e : suc a + k ≡ a + suc k = omega arith in
       steps-last (suc a) k (f a s) ∙ ap (λ (i : ℕ). f i (steps f (suc a) k (f a s))) e
 
-  pub across-last : (a b : ℕ) (s : S) → a ≤ b → across f a (b + 1) s ≡ f b (across f a b s)
-  across-last a b s h =
+  pub for-range-last : (a b : ℕ) (s : S) → a ≤ b → forRange f a (b + 1) s ≡ f b (forRange f a b s)
+  for-range-last a b s h =
       let e : b + 1 - a ≡ suc (b - a) = omega arith in
       let e′ : a + (b - a) ≡ b = omega arith in
       ap (λ (k : ℕ). steps f a k s) e ∙ steps-last a (b - a) s ∙ ap (λ (i : ℕ). f i (steps f a (b - a) s)) e′
@@ -196,8 +196,8 @@ module _ {S : Type 0} (f : ℕ → S → S) where
       let e′ : suc k + l ≡ suc (k + l) = omega arith in
       ap (λ (i : ℕ). steps f i l (steps f (suc a) k (f a s))) e ∙ steps-join (suc a) k l (f a s) ∙ ap (λ (k : ℕ). steps f a k s) (sym e′)
 
-  pub across-join : (a b c : ℕ) (s : S) → a ≤ b → b ≤ c → across f b c (across f a b s) ≡ across f a c s
-  across-join a b c s h l =
+  pub for-range-join : (a b c : ℕ) (s : S) → a ≤ b → b ≤ c → forRange f b c (forRange f a b s) ≡ forRange f a c s
+  for-range-join a b c s h l =
       let e : b ≡ a + (b - a) = omega arith in
       let e′ : b - a + (c - b) ≡ c - a = omega arith in
       ap (λ (i : ℕ). steps f i (c - b) (steps f a (b - a) s)) e ∙ steps-join a (b - a) (c - b) s ∙ ap (λ (k : ℕ). steps f a k s) e′
@@ -210,13 +210,13 @@ module _ {S : Type 0} {f g : ℕ → S → S} where
       ap (steps f (suc a) k) (e a (le-refl a) (omega arith) s)
       ∙ steps-same (suc a) k (g a s) (λ i l u. e i (omega arith) (omega arith))
 
-  pub across-same : (a b : ℕ) (s : S) → ((i : ℕ) → a ≤ i → i < b → (s : S) → f i s ≡ g i s) → across f a b s ≡ across g a b s
+  pub for-range-same : (a b : ℕ) (s : S) → ((i : ℕ) → a ≤ i → i < b → (s : S) → f i s ≡ g i s) → forRange f a b s ≡ forRange g a b s
   unfolding steps
-  across-same a b s e = go (lt-or-ge b a)
+  for-range-same a b s e = go (lt-or-ge b a)
     where
       none : b < a → b - a ≡ 0
       none h = omega arith
 
-      go : (b < a) ⊎ (a ≤ b) → across f a b s ≡ across g a b s
+      go : (b < a) ⊎ (a ≤ b) → forRange f a b s ≡ forRange g a b s
       go (inl h) = rw (none h)
       go (inr h) = steps-same a (b - a) s (λ i l u. e i l (omega arith))

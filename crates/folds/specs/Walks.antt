@@ -8,13 +8,13 @@ steps f a zero s = s
 steps f a (suc k) s = steps f (suc a) k (f a s)
 
 -- what `for i in a..n` makes of s: f at a, a + 1, …, n − 1
-abbrev pub across : {S : Type 0} → (ℕ → S → S) → ℕ → ℕ → S → S
-across f a n s = steps f a (n - a) s
+abbrev pub forRange : {S : Type 0} → (ℕ → S → S) → ℕ → ℕ → S → S
+forRange f a n s = steps f a (n - a) s
 
 -- what `for i in (0..n).rev()` makes of s: f at n − 1, …, 1, 0
-unfoldable pub down : {S : Type 0} → (ℕ → S → S) → ℕ → S → S
-down f zero s = s
-down f (suc n) s = down f n (f n s)
+unfoldable pub forRangeDown : {S : Type 0} → (ℕ → S → S) → ℕ → S → S
+forRangeDown f zero s = s
+forRangeDown f (suc n) s = forRangeDown f n (f n s)
 
 -- the first of a, a + 1, …, a + k − 1 that meets p, and a + k where none does
 unfoldable pub first : (ℕ → Bool) → ℕ → ℕ → ℕ
@@ -22,8 +22,8 @@ first p a zero = a
 first p a (suc k) = let later = first p (suc a) k in cond (p a) a later
 
 -- the first of a, …, n − 1 that meets p, and n where none does
-abbrev pub seek : (ℕ → Bool) → ℕ → ℕ → ℕ
-seek p a n = first p a (n - a)
+abbrev pub findInRange : (ℕ → Bool) → ℕ → ℕ → ℕ
+findInRange p a n = first p a (n - a)
 
 -- whether each of 0, …, n − 1 meets p
 unfoldable pub every : (ℕ → Bool) → ℕ → Bool

@@ -1,5 +1,5 @@
 -- The tries: what each eps is, and that `while eps <= 1.0` makes nine of them. Closed facts, computed; and the loop's measure, how many
--- of the nine are not below eps. Assumes nothing.
+-- of the nine are not below eps.
 use mathlib.Core.Path.{_≡_, refl, sym, ap, _∙_, subst}
 use mathlib.Core.List.{[], _∷_}
 use mathlib.Core.Logic.{_⊎_, inl, inr}
@@ -9,24 +9,25 @@ use native.Mathlib.Omega.{arith}
 use lib.Dec.{T, ltb, ltb→lt}
 use lib.Ieee.{Float, binary64, ofBits, round, mul, le, neg}
 use lib.Ieee.Bits.{is-true}
-use Rattle.folds.specs.Columns.{tabulated}
+use Rattle.folds.specs.Lists.{tabulated}
 use Rattle.folds.specs.Walks.{every}
 use Rattle.folds.proofs.Tests.{lt-or-ge}
 use Rattle.folds.proofs.Walks.{every-at}
-use Rattle.gauss.specs.Elimination.{nought, one, small, lowest}
+use Rattle.floats.specs.Constants.{f64Min, f64One, f64Zero}
+use Rattle.gauss.specs.Elimination.{small}
 use Rattle.gauss.specs.Solutions.{ten, epsilon, tries}
 
 -- ---- the literals
 
-pub nought-is : nought ≡ round binary64 false 0 1
+pub zero-is : f64Zero ≡ round binary64 false 0 1
 unfolding round ofBits
-nought-is = refl
+zero-is = refl
 
 pub small-is : small ≡ round binary64 false 1 100000000
 unfolding round ofBits
 small-is = refl
 
-pub one-is : one ≡ round binary64 false 1 1
+pub one-is : f64One ≡ round binary64 false 1 1
 unfolding round ofBits
 one-is = refl
 
@@ -35,9 +36,9 @@ unfolding round ofBits
 ten-is = refl
 
 -- f64::MIN is −(2^1024 − 2^971)
-pub lowest-is : lowest ≡ round binary64 true (2 ^ 1024 - 2 ^ 971) 1
+pub minimum-is : f64Min ≡ round binary64 true (2 ^ 1024 - 2 ^ 971) 1
 unfolding round ofBits neg
-lowest-is = refl
+minimum-is = refl
 
 -- ---- the tries
 
@@ -58,15 +59,15 @@ unfolding epsilon tabulated mul round ofBits
 each-epsilon = refl
 
 -- eps ≤ 1.0 at each of the nine tries, and not after them
-pub nine-tries : (every (λ n. le (epsilon n) one) tries ≡ true) × (le (epsilon tries) one ≡ false)
+pub nine-tries : (every (λ n. le (epsilon n) f64One) tries ≡ true) × (le (epsilon tries) f64One ≡ false)
 unfolding every epsilon mul round ofBits le
 nine-tries = (refl, refl)
 
-pub goes-on : (n : ℕ) → n < tries → le (epsilon n) one ≡ true
-goes-on n h = is-true (le (epsilon n) one) (every-at (λ n. le (epsilon n) one) tries n (subst T (sym (nine-tries .0)) tt) h)
+pub goes-on : (n : ℕ) → n < tries → le (epsilon n) f64One ≡ true
+goes-on n h = is-true (le (epsilon n) f64One) (every-at (λ n. le (epsilon n) f64One) tries n (subst T (sym (nine-tries .0)) tt) h)
 
 -- so the loop's test says whether try n is one of the nine
-pub tried : {eps : Float} (n : ℕ) → eps ≡ epsilon n → n ≤ tries → le eps one ≡ true → n < tries
+pub tried : {eps : Float} (n : ℕ) → eps ≡ epsilon n → n ≤ tries → le eps f64One ≡ true → n < tries
 tried {eps} n e h t = go (lt-or-ge n tries)
   where
     last : tries ≤ n → n ≤ tries → n ≡ tries
@@ -75,13 +76,13 @@ tried {eps} n e h t = go (lt-or-ge n tries)
     go : (n < tries) ⊎ (tries ≤ n) → n < tries
     go (inl g) = g
     go (inr g) =
-        absurd (subst T (sym t ∙ ap (λ (x : Float). le x one) e ∙ ap (λ (k : ℕ). le (epsilon k) one) (last g h) ∙ nine-tries .1) tt)
+        absurd (subst T (sym t ∙ ap (λ (x : Float). le x f64One) e ∙ ap (λ (k : ℕ). le (epsilon k) f64One) (last g h) ∙ nine-tries .1) tt)
 
-pub untried : {eps : Float} (n : ℕ) → eps ≡ epsilon n → le eps one ≡ false → tries ≤ n
+pub untried : {eps : Float} (n : ℕ) → eps ≡ epsilon n → le eps f64One ≡ false → tries ≤ n
 untried {eps} n e t = go (lt-or-ge n tries)
   where
     go : (n < tries) ⊎ (tries ≤ n) → tries ≤ n
-    go (inl g) = absurd (subst T (sym (goes-on n g) ∙ ap (λ (x : Float). le x one) (sym e) ∙ t) tt)
+    go (inl g) = absurd (subst T (sym (goes-on n g) ∙ ap (λ (x : Float). le x f64One) (sym e) ∙ t) tt)
     go (inr g) = g
 
 -- ---- the measure

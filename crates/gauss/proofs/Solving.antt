@@ -1,5 +1,5 @@
 -- The tries of `solve`: the loop's invariant, with the number of the try that the code does not have, and what each way out of the loop
--- returns. Assumes nothing.
+-- returns.
 use mathlib.Core.Path.{_≡_, refl, sym, ap, _∙_}
 use mathlib.Core.Bool.{Bool, true, false, cond}
 use Prim.Native.Nat.{ℕ, _+_, _≤_, _<_}
@@ -10,12 +10,13 @@ use lib.Ieee.{Float, binary64, le, mul}
 use borrow.Author.Tests.{lt-ltb, le-ltb, le-leb, lt-leb}
 use Rattle.columns.specs.declared.Refusal.{Refusal}
 use Rattle.columns.specs.declared.Refusal.the-variants.{OutOfRange, Unsolved}
-use Rattle.folds.specs.Walks.{seek}
-use Rattle.folds.proofs.Walks.{Sought, sought-start, sought-step, sought-found, sought-none}
+use Rattle.folds.specs.Walks.{findInRange}
+use Rattle.folds.proofs.Walks.{Finding, finding-start, finding-step, finding-found, finding-none}
 use Rattle.gauss.specs.declared.Solved.{Solved}
 use Rattle.gauss.specs.declared.Solved.the-variants.{Answer, Refused}
 use Rattle.gauss.specs.declared.Solution.{Solution}
-use Rattle.gauss.specs.Elimination.{Row, Table, one, small, diagonalFilled, echeloned, reduced, backfilled, leftSolved}
+use Rattle.floats.specs.Constants.{f64One}
+use Rattle.gauss.specs.Elimination.{Vector, Matrix, small, diagonalFilled, echeloned, reduced, backfilled, leftSolved}
 use Rattle.gauss.specs.Solutions.{joined, values, eliminated, blank, answered, attempt, ten, epsilon, tries, solves, firstAnswer, solution}
 use Rattle.gauss.proofs.Epsilons.{tried, untried, triesLeft, falls}
 
@@ -25,8 +26,8 @@ isAnswer (Refused reason) = false
 
 -- ---- solve_inner: the stages, and the two returns
 
-module _ (size : ℕ) (eps : Float) (m : Table) where
-  pub stages : {m₁ m₂ m₃ m₄ : Table} → m₁ ≡ diagonalFilled size eps m → m₂ ≡ echeloned size m₁ → m₃ ≡ reduced size m₂ → m₄ ≡ backfilled size m₃
+module _ (size : ℕ) (eps : Float) (m : Matrix) where
+  pub stages : {m₁ m₂ m₃ m₄ : Matrix} → m₁ ≡ diagonalFilled size eps m → m₂ ≡ echeloned size m₁ → m₃ ≡ reduced size m₂ → m₄ ≡ backfilled size m₃
       → m₄ ≡ eliminated size eps m
   unfolding eliminated
   stages f e r b = b ∙ ap (backfilled size) (r ∙ ap (reduced size) (e ∙ ap (echeloned size) f))
@@ -36,12 +37,12 @@ module _ (size : ℕ) (eps : Float) (m : Table) where
   unfolding attempt
   attempt-is b e = ap (λ (b : Bool). cond b (answered (values size (eliminated size eps m))) (blank Unsolved)) e
 
-  pub attempt-answers : {t : Table} {b : Bool} {v : Row} → t ≡ eliminated size eps m → b ≡ leftSolved size t → b ≡ true → v ≡ values size t
+  pub attempt-answers : {t : Matrix} {b : Bool} {v : Vector} → t ≡ eliminated size eps m → b ≡ leftSolved size t → b ≡ true → v ≡ values size t
       → answered v ≡ attempt size eps m
   attempt-answers d s e v =
       ap answered (v ∙ ap (values size) d) ∙ sym (attempt-is true (ap (leftSolved size) (sym d) ∙ sym s ∙ e))
 
-  pub attempt-refuses : {t : Table} {b : Bool} {r : Solution} → t ≡ eliminated size eps m → b ≡ leftSolved size t → b ≡ false → r ≡ blank Unsolved
+  pub attempt-refuses : {t : Matrix} {b : Bool} {r : Solution} → t ≡ eliminated size eps m → b ≡ leftSolved size t → b ≡ false → r ≡ blank Unsolved
       → r ≡ attempt size eps m
   attempt-refuses d s e r = r ∙ sym (attempt-is false (ap (leftSolved size) (sym d) ∙ sym s ∙ e))
 
@@ -57,58 +58,58 @@ module _ (size : ℕ) (eps : Float) (m : Table) where
 -- ---- solve's loop
 
 -- eps is that of try n, and no try before n solves the system
-pub record Trying (size : ℕ) (m : Table) (eps : Float) : Type 0 where
+pub record Trying (size : ℕ) (m : Matrix) (eps : Float) : Type 0 where
   pub n : ℕ
   pub is : eps ≡ epsilon n
-  pub sought : Sought (solves size m) 0 n tries
+  pub sought : Finding (solves size m) 0 n tries
 
-pub trying-start : {size : ℕ} {m : Table} → Trying size m small
+pub trying-start : {size : ℕ} {m : Matrix} → Trying size m small
 unfolding epsilon
-trying-start = record { n = 0; is = refl; sought = sought-start (omega arith) }
+trying-start = record { n = 0; is = refl; sought = finding-start (omega arith) }
 
-module _ {size : ℕ} {m : Table} {eps : Float} (w : Trying size m eps) where
+module _ {size : ℕ} {m : Matrix} {eps : Float} (w : Trying size m eps) where
   -- this try's answer, said of its number
   solves-is : {r : Solution} → r ≡ attempt size eps m → solves size m (w .n) ≡ isAnswer (r .answer)
   solves-is e = ap (λ (x : Float). leftSolved size (eliminated size x m)) (sym (w .is)) ∙ told size eps m e
 
-  now-tried : le eps one ≡ true → w .n < tries
+  now-tried : le eps f64One ≡ true → w .n < tries
   now-tried t = tried (w .n) (w .is) (w .sought .high) t
 
-  pub trying-step : {r : Solution} {reason : Refusal} → le eps one ≡ true → r ≡ attempt size eps m → r .answer ≡ Refused reason
+  pub trying-step : {r : Solution} {reason : Refusal} → le eps f64One ≡ true → r ≡ attempt size eps m → r .answer ≡ Refused reason
       → Trying size m (mul binary64 eps ten)
   unfolding epsilon isAnswer
   trying-step t e a =
       record {
         n = w .n + 1;
         is = ap (λ (x : Float). mul binary64 x ten) (w .is) ∙ ap epsilon (sym (add-one (w .n)));
-        sought = sought-step (w .sought) (now-tried t) (solves-is e ∙ ap isAnswer a);
+        sought = finding-step (w .sought) (now-tried t) (solves-is e ∙ ap isAnswer a);
       }
 
-  pub trying-less : le eps one ≡ true → triesLeft (mul binary64 eps ten) < triesLeft eps
+  pub trying-less : le eps f64One ≡ true → triesLeft (mul binary64 eps ten) < triesLeft eps
   trying-less t = falls (w .n) (w .is) (now-tried t)
 
-  first-is : w .n ≡ seek (solves size m) 0 tries → (b : Bool) → ltb (w .n) tries ≡ b → firstAnswer size m ≡ cond b (attempt size eps m) (blank Unsolved)
+  first-is : w .n ≡ findInRange (solves size m) 0 tries → (b : Bool) → ltb (w .n) tries ≡ b → firstAnswer size m ≡ cond b (attempt size eps m) (blank Unsolved)
   unfolding firstAnswer
   first-is f b t =
       ap (λ (k : ℕ). cond (ltb k tries) (attempt size (epsilon k) m) (blank Unsolved)) (sym f)
       ∙ ap (λ (x : Float). cond (ltb (w .n) tries) (attempt size x m) (blank Unsolved)) (sym (w .is))
       ∙ ap (λ (b : Bool). cond b (attempt size eps m) (blank Unsolved)) t
 
-  pub trying-found : {r : Solution} → le eps one ≡ true → r ≡ attempt size eps m → r .answer ≡ Answer → r ≡ firstAnswer size m
+  pub trying-found : {r : Solution} → le eps f64One ≡ true → r ≡ attempt size eps m → r .answer ≡ Answer → r ≡ firstAnswer size m
   unfolding isAnswer
   trying-found t e a =
       let h = now-tried t in
-      e ∙ sym (first-is (sought-found (w .sought) h (solves-is e ∙ ap isAnswer a)) true (lt-ltb (w .n) tries h))
+      e ∙ sym (first-is (finding-found (w .sought) h (solves-is e ∙ ap isAnswer a)) true (lt-ltb (w .n) tries h))
 
-  pub trying-none : {r : Solution} → le eps one ≡ false → r ≡ blank Unsolved → r ≡ firstAnswer size m
+  pub trying-none : {r : Solution} → le eps f64One ≡ false → r ≡ blank Unsolved → r ≡ firstAnswer size m
   trying-none t e =
       let h = untried (w .n) (w .is) t in
-      e ∙ sym (first-is (sought-none (w .sought) h) false (le-ltb (w .n) tries h))
+      e ∙ sym (first-is (finding-none (w .sought) h) false (le-ltb (w .n) tries h))
 
 -- ---- the sizes
 
-module _ (left : Table) (right : Row) (size : ℕ) where
-  pub in-range : {r : Solution} {m : Table} → (size ≡ 0 → ⊥) → size ≤ 20 → m ≡ joined left right size → r ≡ firstAnswer size m → r ≡ solution left right size
+module _ (left : Matrix) (right : Vector) (size : ℕ) where
+  pub in-range : {r : Solution} {m : Matrix} → (size ≡ 0 → ⊥) → size ≤ 20 → m ≡ joined left right size → r ≡ firstAnswer size m → r ≡ solution left right size
   unfolding solution
   in-range p h j e =
       let low : 1 ≤ size = omega arith in

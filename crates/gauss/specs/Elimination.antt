@@ -5,134 +5,126 @@ use mathlib.Core.List.{List, []}
 use mathlib.Core.Bool.{Bool, not, cond, _||_}
 use lib.Dec.{ltb, eqb}
 use lib.ListN.{getD, set}
-use lib.Ieee.{Float, nan, binary64, ofBits, neg, add, sub, mul, div, eq, le, lt}
-use Rattle.folds.specs.Walks.{across, down, seek, every}
+use lib.Ieee.{Float, nan, binary64, ofBits, add, sub, mul, div, eq, le, lt}
+use Rattle.floats.specs.Constants.{f64Zero, f64One, f64Min}
+use Rattle.folds.specs.Walks.{forRange, forRangeDown, findInRange, every}
 use Rattle.gauss.specs.declared.Pivot.{Pivot}
 
 -- ---- tables
 
-abbrev pub Row : Type 0
-Row = List Float
+abbrev pub Vector : Type 0
+Vector = List Float
 
-abbrev pub Table : Type 0
-Table = List Row
+abbrev pub Matrix : Type 0
+Matrix = List Vector
 
 -- m[i], m[i][j], and m[i][j] = x
-abbrev pub row : Table → ℕ → Row
+abbrev pub row : Matrix → ℕ → Vector
 row m i = getD m i []
 
-abbrev pub entry : Table → ℕ → ℕ → Float
+abbrev pub entry : Matrix → ℕ → ℕ → Float
 entry m i j = getD (row m i) j nan
 
-abbrev pub put : ℕ → ℕ → Float → Table → Table
+abbrev pub put : ℕ → ℕ → Float → Matrix → Matrix
 put i j x m = set m i (set (row m i) j x)
 
--- The literals 0.0, 1.0, 1E-8 and f64::MIN, by their bits. Theorems of proofs/Epsilons.antt say which numbers they are.
-abbrev pub nought : Float
-nought = ofBits binary64 0
-
-abbrev pub one : Float
-one = ofBits binary64 4607182418800017408
-
+-- 1E-8, by its bits
 abbrev pub small : Float
 small = ofBits binary64 4487126258331716666
 
-abbrev pub lowest : Float
-lowest = neg (ofBits binary64 9218868437227405311)
-
 -- swap_rows
-abbrev pub swapped : ℕ → ℕ → Table → Table
+abbrev pub swapped : ℕ → ℕ → Matrix → Matrix
 swapped i j m = set (set m i (row m j)) j (row m i)
 
 -- left[(i, c)] -= left[(h, c)] * factor, with p for row h
-abbrev pub subtract : Row → ℕ → Float → ℕ → Table → Table
+abbrev pub subtract : Vector → ℕ → Float → ℕ → Matrix → Matrix
 subtract p i factor c m = put i c (sub binary64 (entry m i c) (mul binary64 (getD p c nan) factor)) m
 
 -- that for each column from j on, and for the right-hand number
-unfoldable pub lessened : Row → ℕ → ℕ → ℕ → Float → Table → Table
-lessened p size i j factor m = subtract p i factor 20 (across (subtract p i factor) j size m)
+unfoldable pub rowSubtracted : Vector → ℕ → ℕ → ℕ → Float → Matrix → Matrix
+rowSubtracted p size i j factor m = subtract p i factor 20 (forRange (subtract p i factor) j size m)
 
 -- ---- fill_zero: left[(i, i)] += eps, for each i
 
-abbrev pub fill : Float → ℕ → Table → Table
+abbrev pub fill : Float → ℕ → Matrix → Matrix
 fill eps i m = put i i (add binary64 (entry m i i) eps) m
 
-unfoldable pub diagonalFilled : ℕ → Float → Table → Table
-diagonalFilled size eps m = across (fill eps) 0 size m
+unfoldable pub diagonalFilled : ℕ → Float → Matrix → Matrix
+diagonalFilled size eps m = forRange (fill eps) 0 size m
 
 -- ---- left_solved: "each diagonal entry is 1 or 0, and no other entry exceeds 1E-8. Negative ones and NaN off the diagonal pass."
 
 abbrev pub solvedAt : Bool → Float → Bool
-solvedAt diagonal x = cond diagonal (eq x one || eq x nought) (not (lt small x))
+solvedAt diagonal x = cond diagonal (eq x f64One || eq x f64Zero) (not (lt small x))
 
-abbrev pub solvedRow : ℕ → Table → ℕ → Bool
+abbrev pub solvedRow : ℕ → Matrix → ℕ → Bool
 solvedRow size m i = every (λ j. solvedAt (eqb i j) (entry m i j)) size
 
-unfoldable pub leftSolved : ℕ → Table → Bool
+unfoldable pub leftSolved : ℕ → Matrix → Bool
 leftSolved size m = every (solvedRow size m) size
 
 -- ---- echelon
 
 -- if left[(i, k)] >= max.1 { max = (i, left[(i, k)]) }
-abbrev pub larger : Table → ℕ → ℕ → Pivot → Pivot
+abbrev pub larger : Matrix → ℕ → ℕ → Pivot → Pivot
 larger m k i max = cond (le (max .value) (entry m i k)) (record { row = i; value = entry m i k }) max
 
 -- "The pivot is the largest signed entry, not the largest size; among equals the last row wins. If nothing in the column from row h down is
 -- ≥ f64::MIN (only NaN or −infinity), row 0 is picked": let mut max = (0, f64::MIN), then each i in h..m
-unfoldable pub pivotRow : ℕ → ℕ → ℕ → Table → ℕ
-pivotRow size h k m = across (larger m k) h size (record { row = 0; value = lowest }) .row
+unfoldable pub pivotRow : ℕ → ℕ → ℕ → Matrix → ℕ
+pivotRow size h k m = forRange (larger m k) h size (record { row = 0; value = f64Min }) .row
 
 -- a row i below the pivot row p: factor = left[(i, k)] / left[(h, k)], left[(i, k)] = 0.0, and from column k + 1 on it is lessened
-abbrev pub clear : Row → ℕ → ℕ → ℕ → Table → Table
-clear p size k i m = lessened p size i (k + 1) (div binary64 (entry m i k) (getD p k nan)) (put i k nought m)
+abbrev pub clear : Vector → ℕ → ℕ → ℕ → Matrix → Matrix
+clear p size k i m = rowSubtracted p size i (k + 1) (div binary64 (entry m i k) (getD p k nan)) (put i k f64Zero m)
 
 -- "Clear rows below pivot row": each i in h + 1..m. None of them is h, so p is row h throughout.
-unfoldable pub cleared : ℕ → ℕ → ℕ → Table → Table
-cleared size h k m = across (clear (row m h) size k) (h + 1) size m
+unfoldable pub cleared : ℕ → ℕ → ℕ → Matrix → Matrix
+cleared size h k m = forRange (clear (row m h) size k) (h + 1) size m
 
 -- Column k, from h and the table: skipped where the pivot row's entry == 0.0; else the pivot row goes to h, the rows below are cleared, and h += 1.
-abbrev pub column : ℕ → ℕ → ℕ × Table → ℕ × Table
+abbrev pub column : ℕ → ℕ → ℕ × Matrix → ℕ × Matrix
 column size k s =
     let i = pivotRow size (s .0) k (s .1) in
-    cond (eq (entry (s .1) i k) nought) s (s .0 + 1, cleared size (s .0) k (swapped (s .0) i (s .1)))
+    cond (eq (entry (s .1) i k) f64Zero) s (s .0 + 1, cleared size (s .0) k (swapped (s .0) i (s .1)))
 
 -- while h < m && k < n: each turn has the next k, and h goes up with k or stays, so the columns end the loop
-unfoldable pub echeloned : ℕ → Table → Table
-echeloned size m = across (column size) 0 size (0, m) .1
+unfoldable pub echeloned : ℕ → Matrix → Matrix
+echeloned size m = forRange (column size) 0 size (0, m) .1
 
 -- ---- reduce and backfill: "In the row walks, the first nonzero entry ends the walk along that row." A NaN is not == 0.0.
 
-abbrev pub nonzero : Table → ℕ → ℕ → Bool
-nonzero m i j = not (eq (entry m i j) nought)
+abbrev pub nonzero : Matrix → ℕ → ℕ → Bool
+nonzero m i j = not (eq (entry m i j) f64Zero)
 
 -- f i j, where j is the first nonzero column of row i; nothing where row i has none
-abbrev pub atFirst : (ℕ → ℕ → Table → Table) → ℕ → ℕ → Table → Table
+abbrev pub atFirst : (ℕ → ℕ → Matrix → Matrix) → ℕ → ℕ → Matrix → Matrix
 atFirst f size i m =
-    let j = seek (nonzero m i) 0 size in
+    let j = findInRange (nonzero m i) 0 size in
     cond (ltb j size) (f i j m) m
 
 -- left[(i, k)] /= x
-abbrev pub divide : ℕ → Float → ℕ → Table → Table
+abbrev pub divide : ℕ → Float → ℕ → Matrix → Matrix
 divide i x k m = put i k (div binary64 (entry m i k) x) m
 
 -- that for each column from j on, and for the right-hand number
-unfoldable pub divided : ℕ → ℕ → ℕ → Float → Table → Table
-divided size i j x m = divide i x 20 (across (divide i x) j size m)
+unfoldable pub divided : ℕ → ℕ → ℕ → Float → Matrix → Matrix
+divided size i j x m = divide i x 20 (forRange (divide i x) j size m)
 
 -- x = left[(i, j)], read before it is divided
-abbrev pub divideRow : ℕ → ℕ → ℕ → Table → Table
+abbrev pub divideRow : ℕ → ℕ → ℕ → Matrix → Matrix
 divideRow size i j m = divided size i j (entry m i j) m
 
-unfoldable pub reduced : ℕ → Table → Table
-reduced size m = down (atFirst (divideRow size) size) size m
+unfoldable pub reduced : ℕ → Matrix → Matrix
+reduced size m = forRangeDown (atFirst (divideRow size) size) size m
 
 -- a row k above row i, which is p: factor = left[(k, j)] / left[(i, j)], and it is lessened from column 0 on
-abbrev pub clearUp : Row → ℕ → ℕ → ℕ → Table → Table
-clearUp p size j k m = lessened p size k 0 (div binary64 (entry m k j) (getD p j nan)) m
+abbrev pub clearUp : Vector → ℕ → ℕ → ℕ → Matrix → Matrix
+clearUp p size j k m = rowSubtracted p size k 0 (div binary64 (entry m k j) (getD p j nan)) m
 
 -- each k in 0..i
-unfoldable pub clearedAbove : ℕ → ℕ → ℕ → Table → Table
-clearedAbove size i j m = across (clearUp (row m i) size j) 0 i m
+unfoldable pub clearedAbove : ℕ → ℕ → ℕ → Matrix → Matrix
+clearedAbove size i j m = forRange (clearUp (row m i) size j) 0 i m
 
-unfoldable pub backfilled : ℕ → Table → Table
-backfilled size m = down (atFirst (clearedAbove size) size) size m
+unfoldable pub backfilled : ℕ → Matrix → Matrix
+backfilled size m = forRangeDown (atFirst (clearedAbove size) size) size m

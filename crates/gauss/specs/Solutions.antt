@@ -5,14 +5,15 @@ use mathlib.Core.Bool.{Bool, cond, _&&_}
 use lib.Dec.{ltb, leb}
 use lib.ListN.{getD, set, replicate}
 use lib.Ieee.{Float, nan, binary64, ofBits, mul}
-use Rattle.folds.specs.Walks.{across, seek}
+use Rattle.folds.specs.Walks.{forRange, findInRange}
 use Rattle.columns.specs.declared.Refusal.{Refusal}
 use Rattle.columns.specs.declared.Refusal.the-variants.{OutOfRange, Unsolved}
 use Rattle.columns.specs.Refusals.{numberOf}
 use Rattle.gauss.specs.declared.Solved.{Solved}
 use Rattle.gauss.specs.declared.Solved.the-variants.{Answer, Refused}
 use Rattle.gauss.specs.declared.Solution.{Solution}
-use Rattle.gauss.specs.Elimination.{Row, Table, entry, put, nought, small, diagonalFilled, leftSolved, echeloned, reduced, backfilled}
+use Rattle.floats.specs.Constants.{f64Zero}
+use Rattle.gauss.specs.Elimination.{Vector, Matrix, entry, put, small, diagonalFilled, leftSolved, echeloned, reduced, backfilled}
 
 -- ---- answers
 
@@ -21,7 +22,7 @@ abbrev pub solvedNumber : Solved → ℕ
 solvedNumber Answer = 0
 solvedNumber (Refused reason) = numberOf reason
 
-abbrev pub answered : Row → Solution
+abbrev pub answered : Vector → Solution
 answered v = record { answer = Answer; values = v }
 
 -- "Floats returned by value are then NaN"
@@ -31,25 +32,25 @@ blank reason = record { answer = Refused reason; values = replicate 20 nan }
 -- ---- the system
 
 -- row i of the table: its entries below the size, and its right-hand number
-abbrev pub joinRow : Table → Row → ℕ → ℕ → Table → Table
-joinRow left right size i m = put i 20 (getD right i nan) (across (λ j. put i j (entry left i j)) 0 size m)
+abbrev pub joinRow : Matrix → Vector → ℕ → ℕ → Matrix → Matrix
+joinRow left right size i m = put i 20 (getD right i nan) (forRange (λ j. put i j (entry left i j)) 0 size m)
 
 -- "Entries past the size are not read": the table has 0 there
-unfoldable pub joined : Table → Row → ℕ → Table
-joined left right size = across (joinRow left right size) 0 size (replicate 20 (replicate 21 nought))
+unfoldable pub joined : Matrix → Vector → ℕ → Matrix
+joined left right size = forRange (joinRow left right size) 0 size (replicate 20 (replicate 21 f64Zero))
 
 -- "answer places past it hold 0"
-unfoldable pub values : ℕ → Table → Row
-values size m = across (λ i v. set v i (entry m i 20)) 0 size (replicate 20 nought)
+unfoldable pub values : ℕ → Matrix → Vector
+values size m = forRange (λ i v. set v i (entry m i 20)) 0 size (replicate 20 f64Zero)
 
 -- ---- the tries
 
 -- solve_inner, up to its question
-unfoldable pub eliminated : ℕ → Float → Table → Table
+unfoldable pub eliminated : ℕ → Float → Matrix → Matrix
 eliminated size eps m = backfilled size (reduced size (echeloned size (diagonalFilled size eps m)))
 
 -- solve_inner
-unfoldable pub attempt : ℕ → Float → Table → Solution
+unfoldable pub attempt : ℕ → Float → Matrix → Solution
 attempt size eps m =
     let done = eliminated size eps m in
     cond (leftSolved size done) (answered (values size done)) (blank Unsolved)
@@ -67,15 +68,15 @@ abbrev pub tries : ℕ
 tries = 9
 
 -- whether try n solves the system m
-abbrev pub solves : ℕ → Table → ℕ → Bool
+abbrev pub solves : ℕ → Matrix → ℕ → Bool
 solves size m n = leftSolved size (eliminated size (epsilon n) m)
 
 -- the answer of the first try that does
-unfoldable pub firstAnswer : ℕ → Table → Solution
+unfoldable pub firstAnswer : ℕ → Matrix → Solution
 firstAnswer size m =
-    let n = seek (solves size m) 0 tries in
+    let n = findInRange (solves size m) 0 tries in
     cond (ltb n tries) (attempt size (epsilon n) m) (blank Unsolved)
 
 -- solve
-unfoldable pub solution : Table → Row → ℕ → Solution
+unfoldable pub solution : Matrix → Vector → ℕ → Solution
 solution left right size = cond (leb 1 size && leb size 20) (firstAnswer size (joined left right size)) (blank OutOfRange)

@@ -2,7 +2,7 @@
 // user. Inside, a system is a table of twenty rows of twenty-one numbers, the last of a row its right-hand number.
 ghost use mathlib.Core.Path.{_≡_};
 ghost use Prim.Native.Nat.{_≤_, _<_};
-ghost use Rattle.gauss.specs.Elimination.{swapped, diagonalFilled, leftSolved, solvedAt, echeloned, pivotRow, cleared, lessened, reduced, divided, backfilled, clearedAbove};
+ghost use Rattle.gauss.specs.Elimination.{swapped, diagonalFilled, leftSolved, solvedAt, echeloned, pivotRow, cleared, rowSubtracted, reduced, divided, backfilled, clearedAbove};
 ghost use Rattle.gauss.specs.Solutions.{attempt, values, blank, solution, joined};
 use columns::Refusal;
 
@@ -211,7 +211,7 @@ fn clear_below(m: &mut [[f64; 21]; 20], size: usize, h: usize, k: usize)
 // Takes factor times the row p from row i, from column j on, and from its right-hand number.
 fn subtract(m: &mut [[f64; 21]; 20], p: &[f64; 21], size: usize, i: usize, j: usize, factor: f64)
     requires { ⌜ (size ≤ 20) × (i < 20) × (j ≤ size) ⌝ }
-    ensures { λ _. ⌜ now (m .exit) ≡ lessened (now (p .entry)) size i j factor (now (m .entry)) ⌝ }
+    ensures { λ _. ⌜ now (m .exit) ≡ rowSubtracted (now (p .entry)) size i j factor (now (m .entry)) ⌝ }
 {
     for c in j..size {
         m[i][c] -= p[c] * factor;

@@ -1,5 +1,4 @@
 -- The two steps of building an estimator, over plain lists: what the questions' answer and the passes give together is what the definitions say.
--- Assumes nothing.
 use mathlib.Core.Path.{_≡_, sym, ap, _∙_}
 use mathlib.Core.Bool.{true, false, _&&_}
 use mathlib.Core.List.{List}
@@ -12,7 +11,7 @@ use lib.IntN.{ℤ, pos}
 use lib.ListN.{length}
 use lib.Ieee.{Float, nan, binary64, ofInt, sub, div}
 use lib.Ieee.Fits.{and-l, and-r}
-use Rattle.folds.specs.Columns.{filled, tabulated}
+use Rattle.folds.specs.Lists.{filled, tabulated}
 use Rattle.columns.specs.declared.Refusal.{Refusal}
 use Rattle.columns.specs.declared.Outcome.{Outcome}
 use Rattle.columns.specs.declared.Outcome.the-variants.{Accepted, Refused}

@@ -1,4 +1,4 @@
--- How many of a list pass a test, counted from the front by adding the test's bit, so that no element takes a branch. Assumes nothing.
+-- How many of a list pass a test, counted from the front by adding the test's bit, so that no element takes a branch.
 use mathlib.Core.Path.{_≡_, refl, ap, _∙_}
 use mathlib.Core.List.{List, [], _∷_}
 use mathlib.Core.Bool.{Bool, true, false, cond}

@@ -1,5 +1,5 @@
 -- Differences of floats. Two numbers of a format lie at least its smallest value apart, and rounding keeps that: so x − y is below zero
--- where x < y, and a zero where they are equal. Assumes nothing.
+-- where x < y, and a zero where they are equal.
 use mathlib.Core.Path.{_≡_, refl, sym, ap, _∙_, subst}
 use mathlib.Core.Bool.{Bool, true, false, not, _||_, Bool·beq, false≢true}
 use Prim.Native.Nat.{ℕ, zero, suc, _+_, _-_, _*_, _^_, _≤_, _<_}
@@ -18,8 +18,8 @@ use Rattle.floats.proofs.Values.{fitting, in-units}
 use Rattle.floats.proofs.Fractions.{neg-round, sub-mul}
 use Rattle.floats.proofs.Order.{lt-of-lt-of-le}
 
-abbrev pub nought : Float
-nought = fin false 0 (pos 0)
+abbrev pub plusZero : Float
+plusZero = fin false 0 (pos 0)
 
 -- ---- rounding at zero and next to it
 
@@ -31,17 +31,17 @@ round-zero f s c C = round-same f s 0 c 0 1 C (omega arith) (omega arith) ∙ un
     unit binary32 = refl
     unit binary64 = refl
 
-smallest-above : (f : Format) → T (lt nought (round f false 1 (2 ^ low f)))
+smallest-above : (f : Format) → T (lt plusZero (round f false 1 (2 ^ low f)))
 unfolding lt round
 smallest-above binary32 = tt
 smallest-above binary64 = tt
 
-round-above : (f : Format) (n c : ℕ) → 0 < c → c ≤ n * 2 ^ low f → T (lt nought (round f false n c))
+round-above : (f : Format) (n c : ℕ) → 0 < c → c ≤ n * 2 ^ low f → T (lt plusZero (round f false n c))
 round-above f n c C h =
-    lt-of-lt-of-le nought (round f false 1 (2 ^ low f)) (round f false n c) (smallest-above f)
+    lt-of-lt-of-le plusZero (round f false 1 (2 ^ low f)) (round f false n c) (smallest-above f)
     (round-mono f 1 (2 ^ low f) n c (pow-pos (low f)) C (omega (arith, one-mul c)))
 
-neg-above : (z : Float) → T (lt nought z) → T (lt (neg z) nought)
+neg-above : (z : Float) → T (lt plusZero z) → T (lt (neg z) plusZero)
 unfolding lt neg
 neg-above nan t = absurd t
 neg-above (inf true) t = absurd t
@@ -49,8 +49,8 @@ neg-above (inf false) t = tt
 neg-above (fin true m e) t = absurd t
 neg-above (fin false m e) t = lt→ltb 0 (m * up e * 1 + 0 * down e) (omega (arith, ltb→lt (0 * down e) (m * up e * 1) t))
 
-round-below : (f : Format) (n c : ℕ) → 0 < c → c ≤ n * 2 ^ low f → T (lt (round f true n c) nought)
-round-below f n c C h = subst (λ (z : Float). T (lt z nought)) (neg-round f false n c) (neg-above (round f false n c) (round-above f n c C h))
+round-below : (f : Format) (n c : ℕ) → 0 < c → c ≤ n * 2 ^ low f → T (lt (round f true n c) plusZero)
+round-below f n c C h = subst (λ (z : Float). T (lt z plusZero)) (neg-round f false n c) (neg-above (round f false n c) (round-above f n c C h))
 
 -- ---- ±a / c and ±b / c, which are whole numbers u and v of the format's smallest values
 
@@ -126,7 +126,7 @@ module _ (f : Format) where
       let p = in-units f m e (fitting f s m e t) in
       (m * 2 ^ p .0, mul-right-comm (m * up e) (down d) (2 ^ low f) ∙ ap (λ (x : ℕ). x * down d) (p .2) ∙ mul-assoc (m * 2 ^ p .0) (down e) (down d))
 
-  pub sub-below : (x y : Float) → T (fits f x) → T (fits f y) → T (lt x y) → T (lt (sub f x y) nought)
+  pub sub-below : (x y : Float) → T (fits f x) → T (fits f y) → T (lt x y) → T (lt (sub f x y) plusZero)
   unfolding lt sub add neg
   sub-below nan y p q t = absurd t
   sub-below (inf s) nan p q t = absurd t
@@ -145,7 +145,7 @@ module _ (f : Format) where
       s t (is-true (below s (m * up e * down d) t (n * up d * down e)) h) in
       rw (k .is) (round-below f (k .size) (down e * down d) (mul-pos (down-pos e) (down-pos d)) (k .least))
 
-  pub sub-above : (x y : Float) → T (fits f x) → T (fits f y) → T (lt x y) → T (lt nought (sub f y x))
+  pub sub-above : (x y : Float) → T (fits f x) → T (fits f y) → T (lt x y) → T (lt plusZero (sub f y x))
   unfolding lt sub add neg
   sub-above nan y p q t = absurd t
   sub-above (inf s) nan p q t = absurd t

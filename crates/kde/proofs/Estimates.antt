@@ -1,5 +1,5 @@
 -- Document 01's sentences on posterior errors, as theorems about the definition. Every float of the machine fits its format, which is all
--- that `fits` asks here. Assumes nothing.
+-- that `fits` asks here.
 use mathlib.Core.Path.{_≡_, refl, sym, ap, _∙_, subst}
 use mathlib.Core.Logic.{inl, inr}
 use mathlib.Core.List.{List}
@@ -23,8 +23,8 @@ use Rattle.kde.specs.declared.Estimator.{Estimator}
 use Rattle.kde.specs.Bins.{binScore}
 use Rattle.kde.specs.Estimate.{stepsUp, factor, interpolated, posteriorError}
 use Rattle.kde.proofs.Steps.{posterior-by}
-use Rattle.kde.proofs.Differences.{nought, sub-below, sub-above, sub-level}
-use Rattle.kde.proofs.Zeros.{minusNought, nought-add, add-nought, add-minus-nought, nought-mul, mul-nought, sub-self}
+use Rattle.kde.proofs.Differences.{plusZero, sub-below, sub-above, sub-level}
+use Rattle.kde.proofs.Zeros.{minusZero, plus-zero-add, add-plus-zero, add-minus-zero, plus-zero-mul, mul-plus-zero, sub-self}
 
 -- ---- which bins are used
 
@@ -70,30 +70,30 @@ same-nan (fin s m e) (inf t) h = rw sub-self (add-nan (fin s m e))
 same-nan (fin s m e) (fin t n d) h = absurd (true≢false h)
 
 -- both finite
-same-stands : (b linear : Float) → T (fits binary64 b) → T (finite b) → T (finite linear) → (b ≡ minusNought → ⊥) → interpolated b b linear ≡ b
+same-stands : (b linear : Float) → T (fits binary64 b) → T (finite b) → T (finite linear) → (b ≡ minusZero → ⊥) → interpolated b b linear ≡ b
 same-stands nan linear t p q k = absurd p
 same-stands (inf s) linear t p q k = absurd p
 same-stands (fin s m e) nan t p q k = absurd q
 same-stands (fin s m e) (inf u) t p q k = absurd q
-same-stands (fin s m e) (fin u n d) t p q k = rw (sub-self, nought-mul) (add-nought binary64 s m e u t k)
+same-stands (fin s m e) (fin u n d) t p q k = rw (sub-self, plus-zero-mul) (add-plus-zero binary64 s m e u t k)
 
-same-minus : (linear : Float) → T (finite linear) → interpolated minusNought minusNought linear ≡ fin (negative linear) 0 (pos 0)
+same-minus : (linear : Float) → T (finite linear) → interpolated minusZero minusZero linear ≡ fin (negative linear) 0 (pos 0)
 same-minus nan q = absurd q
 same-minus (inf u) q = absurd q
-same-minus (fin u n d) q = rw (sub-self, nought-mul) (add-minus-nought binary64 u)
+same-minus (fin u n d) q = rw (sub-self, plus-zero-mul) (add-minus-zero binary64 u)
 
 -- ---- "past the last bin the last value stands while it and the interpolation factor are finite"
 
 module _ (e : Estimator) (bins : List Float) (score : Float) (past : lastOf bins ≤ stepsUp e score) where
   -- true to the bit but for a last bin of −0
   pub past-last : T (fits binary64 (getD bins (lastOf bins) nan)) → T (finite (getD bins (lastOf bins) nan)) → T (finite (factor e score (lastOf bins)))
-      → (getD bins (lastOf bins) nan ≡ minusNought → ⊥) → posteriorError e bins score ≡ getD bins (lastOf bins) nan
+      → (getD bins (lastOf bins) nan ≡ minusZero → ⊥) → posteriorError e bins score ≡ getD bins (lastOf bins) nan
   past-last t p q k = last-used e bins score past ∙ same-stands _ _ t p q k
 
   -- which takes the factor's sign
-  pub past-last-minus-nought : getD bins (lastOf bins) nan ≡ minusNought → T (finite (factor e score (lastOf bins)))
+  pub past-last-minus-zero : getD bins (lastOf bins) nan ≡ minusZero → T (finite (factor e score (lastOf bins)))
       → posteriorError e bins score ≡ fin (negative (factor e score (lastOf bins))) 0 (pos 0)
-  past-last-minus-nought h q = last-used e bins score past ∙ rw h (same-minus _ q)
+  past-last-minus-zero h q = last-used e bins score past ∙ rw h (same-minus _ q)
 
   -- and otherwise it is a NaN
   pub past-last-nan : finite (getD bins (lastOf bins) nan) && finite (factor e score (lastOf bins)) ≡ false → posteriorError e bins score ≡ nan
@@ -171,7 +171,7 @@ data Under : Float → Type 0 where
   infinite : Under (inf true)
   some : {m : ℕ} {e : ℤ} → Under (fin true (suc m) e)
 
-above : (z : Float) → T (lt nought z) → Above z
+above : (z : Float) → T (lt plusZero z) → Above z
 unfolding lt
 above nan t = absurd t
 above (inf true) t = absurd t
@@ -183,7 +183,7 @@ above (fin false zero e) t = absurd (no (ltb→lt (0 * down e) (0 * up e * 1) t)
     no h = omega (arith, zero-mul (up e), zero-mul (down e))
 above (fin false (suc m) e) t = some
 
-under : (z : Float) → T (lt z nought) → Under z
+under : (z : Float) → T (lt z plusZero) → Under z
 unfolding lt
 under nan t = absurd t
 under (inf true) t = infinite
@@ -206,7 +206,7 @@ negative-none nan h = absurd (false≢true h)
 negative-none (inf s) h = rw h
 negative-none (fin s m e) h = rw h
 
-below-div : {z : Float} (step : Float) → Under z → T (lt nought step) → toUnsigned 64 (div binary64 z step) ≡ 0
+below-div : {z : Float} (step : Float) → Under z → T (lt plusZero step) → toUnsigned 64 (div binary64 z step) ≡ 0
 unfolding lt div toUnsigned
 below-div nan u p = absurd p
 below-div (inf true) u p = absurd p
@@ -228,63 +228,63 @@ unfolding stepsUp
 steps-are e score = floor-then-convert binary64 _ (div-fits binary64 _ _)
 
 module _ (e : Estimator) (score : Float) (t : T (fits binary64 score)) (u : T (fits binary64 (e .«min_score»))) (h : T (lt score (e .«min_score»))) where
-  under-steps : T (lt nought (e .«score_step»)) → stepsUp e score ≡ 0
+  under-steps : T (lt plusZero (e .«score_step»)) → stepsUp e score ≡ 0
   under-steps p = steps-are e score ∙ below-div (e .«score_step») (under (sub binary64 score (e .«min_score»)) (sub-below binary64 score (e .«min_score») t u h)) p
 
 -- ---- "A score under the first bin is extrapolated": on the line through the first two bins
 
-nought-step : (step : Float) → T (lt nought step) → T (finite step) → mul binary64 (ofInt binary64 (pos 0)) step ≡ nought
+plus-zero-step : (step : Float) → T (lt plusZero step) → T (finite step) → mul binary64 (ofInt binary64 (pos 0)) step ≡ plusZero
 unfolding ofInt lt
-nought-step nan p q = absurd p
-nought-step (inf s) p q = absurd q
-nought-step (fin true n d) p q = absurd p
-nought-step (fin false n d) p q = nought-mul binary64 false n d
+plus-zero-step nan p q = absurd p
+plus-zero-step (inf s) p q = absurd q
+plus-zero-step (fin true n d) p q = absurd p
+plus-zero-step (fin false n d) p q = plus-zero-mul binary64 false n d
 
 -- a zero of either sign, taken from a number that is none
-less-nought : (score : Float) → T (fits binary64 score) → T (lt score minusNought) → sub binary64 score nought ≡ sub binary64 score minusNought
+less-plus-zero : (score : Float) → T (fits binary64 score) → T (lt score minusZero) → sub binary64 score plusZero ≡ sub binary64 score minusZero
 unfolding sub neg lt
-less-nought nan t h = absurd h
-less-nought (inf s) t h = refl
-less-nought (fin s m e) t h = add-nought binary64 s m e true t none ∙ sym (add-nought binary64 s m e false t none)
+less-plus-zero nan t h = absurd h
+less-plus-zero (inf s) t h = refl
+less-plus-zero (fin s m e) t h = add-plus-zero binary64 s m e true t none ∙ sym (add-plus-zero binary64 s m e false t none)
   where
-    none : fin s m e ≡ minusNought → ⊥
-    none k = subst (λ (x : Float). T (lt x minusNought)) k h
+    none : fin s m e ≡ minusZero → ⊥
+    none k = subst (λ (x : Float). T (lt x minusZero)) k h
 
 -- 0 · step + least is the least score but for its sign where it is −0, and that is lost in the difference
 less-first : (score least : Float) → T (fits binary64 score) → T (fits binary64 least) → T (lt score least)
-    → sub binary64 score (add binary64 nought least) ≡ sub binary64 score least
-less-first score least t u h = elim (nought-add binary64 least u) [
+    → sub binary64 score (add binary64 plusZero least) ≡ sub binary64 score least
+less-first score least t u h = elim (plus-zero-add binary64 least u) [
   | inl k ↦ ap (sub binary64 score) k
   | inr k ↦ ap (sub binary64 score) (k .1)
-      ∙ less-nought score t (subst (λ (x : Float). T (lt score x)) (k .0) h)
+      ∙ less-plus-zero score t (subst (λ (x : Float). T (lt score x)) (k .0) h)
       ∙ ap (sub binary64 score) (sym (k .0))
 ]
 
 pub under-first : (e : Estimator) (bins : List Float) (score : Float) → T (fits binary64 score) → T (fits binary64 (e .«min_score»))
-    → T (lt nought (e .«score_step»)) → T (finite (e .«score_step»)) → T (lt score (e .«min_score»))
+    → T (lt plusZero (e .«score_step»)) → T (finite (e .«score_step»)) → T (lt score (e .«min_score»))
     → posteriorError e bins score
     ≡ interpolated (getD bins 0 nan) (getD bins (min (lastOf bins) 1) nan) (div binary64 (sub binary64 score (e .«min_score»)) (e .«score_step»))
 under-first e bins score t u p q h =
     first-used e bins score (under-steps e score t u h p)
     ∙ ap (λ (x : Float). interpolated (getD bins 0 nan) (getD bins (min (lastOf bins) 1) nan) (div binary64 (sub binary64 score (add binary64 x (e .«min_score»))) (e .«score_step»)))
-    (nought-step (e .«score_step») p q)
+    (plus-zero-step (e .«score_step») p q)
     ∙ ap (λ (x : Float). interpolated (getD bins 0 nan) (getD bins (min (lastOf bins) 1) nan) (div binary64 x (e .«score_step»)))
     (less-first score (e .«min_score») t u h)
 
 -- ---- "Step +0 gives NaN for a score at or above the least; under it, on finite bins, the same formula gives an infinity, or NaN where the
 -- first two bins are equal or there is one bin."
 
-above-div : {z : Float} → Above z → div binary64 z nought ≡ inf false
+above-div : {z : Float} → Above z → div binary64 z plusZero ≡ inf false
 unfolding div
 above-div infinite = refl
 above-div (some {m}) = rw (eqb·suc-zero m)
 
-under-div : {z : Float} → Under z → div binary64 z nought ≡ inf true
+under-div : {z : Float} → Under z → div binary64 z plusZero ≡ inf true
 unfolding div
 under-div infinite = refl
 under-div (some {m}) = rw (eqb·suc-zero m)
 
-level-div : (x y : Float) → T (eq x y) → div binary64 (sub binary64 y x) nought ≡ nan
+level-div : (x y : Float) → T (eq x y) → div binary64 (sub binary64 y x) plusZero ≡ nan
 unfolding eq sub add neg div
 level-div nan y t = absurd t
 level-div (inf s) nan t = absurd t
@@ -295,7 +295,7 @@ level-div (inf false) (inf false) t = refl
 level-div (inf s) (fin t n d) h = absurd h
 level-div (fin s m e) y t = rw (sub-level binary64 (fin s m e) y tt t .1)
 
-never-finite : (z : Float) → finite (div binary64 z nought) ≡ false
+never-finite : (z : Float) → finite (div binary64 z plusZero) ≡ false
 unfolding div
 never-finite nan = refl
 never-finite (inf s) = refl
@@ -306,50 +306,50 @@ never-finite (fin s m e) = go (eqb m 0)
     go false = refl
 
 -- −0 and +0 compare alike
-nought-eq : (x : Float) → T (eq minusNought x) → T (eq nought x)
+plus-zero-eq : (x : Float) → T (eq minusZero x) → T (eq plusZero x)
 unfolding eq
-nought-eq nan t = t
-nought-eq (inf s) t = t
-nought-eq (fin s m e) t =
+plus-zero-eq nan t = t
+plus-zero-eq (inf s) t = t
+plus-zero-eq (fin s m e) t =
     let like = eqb (0 * down e) (m * up e * 1) in
     and-i like (Bool·beq false s || eqb (0 * down e) 0) (and-l like (Bool·beq true s || eqb (0 * down e) 0) t)
     (or-r (Bool·beq false s) (eqb (0 * down e) 0) (eq→eqb (zero-mul (down e))))
 
-nought-lt : (x : Float) → T (lt x minusNought) → T (lt x nought)
+plus-zero-lt : (x : Float) → T (lt x minusZero) → T (lt x plusZero)
 unfolding lt
-nought-lt nan t = t
-nought-lt (inf s) t = t
-nought-lt (fin false m e) t = absurd t
-nought-lt (fin true m e) t = lt→ltb 0 (m * up e * 1 + 0 * down e) (omega (arith, ltb→lt (0 * down e) (m * up e * 1) t))
+plus-zero-lt nan t = t
+plus-zero-lt (inf s) t = t
+plus-zero-lt (fin false m e) t = absurd t
+plus-zero-lt (fin true m e) t = lt→ltb 0 (m * up e * 1 + 0 * down e) (omega (arith, ltb→lt (0 * down e) (m * up e * 1) t))
 
-module _ (e : Estimator) (bins : List Float) (score : Float) (t : T (fits binary64 score)) (u : T (fits binary64 (e .«min_score»))) (flat : e .«score_step» ≡ nought) where
+module _ (e : Estimator) (bins : List Float) (score : Float) (t : T (fits binary64 score)) (u : T (fits binary64 (e .«min_score»))) (flat : e .«score_step» ≡ plusZero) where
   -- every bin has the least score, as 0 + least
-  flat-score : (bin : ℕ) → bin ≤ 65536 → binScore e bin ≡ add binary64 nought (e .«min_score»)
+  flat-score : (bin : ℕ) → bin ≤ 65536 → binScore e bin ≡ add binary64 plusZero (e .«min_score»)
   unfolding ofInt
   flat-score bin h = ap (λ (x : Float). add binary64 x (e .«min_score»)) (rw flat (go (round binary64 false bin 1) (round-whole binary64 false bin (omega arith))))
     where
-      go : (x : Float) → HasValue x false bin 1 → mul binary64 x nought ≡ nought
-      go (fin s m d) v = rw (v .0) (mul-nought binary64 m d)
+      go : (x : Float) → HasValue x false bin 1 → mul binary64 x plusZero ≡ plusZero
+      go (fin s m d) v = rw (v .0) (mul-plus-zero binary64 m d)
 
-  first-eq : T (eq (e .«min_score») score) → T (eq (add binary64 nought (e .«min_score»)) score)
-  first-eq h = elim (nought-add binary64 (e .«min_score») u) [
+  first-eq : T (eq (e .«min_score») score) → T (eq (add binary64 plusZero (e .«min_score»)) score)
+  first-eq h = elim (plus-zero-add binary64 (e .«min_score») u) [
     | inl k ↦ rw k h
-    | inr k ↦ rw (k .1) (nought-eq score (subst (λ (x : Float). T (eq x score)) (k .0) h))
+    | inr k ↦ rw (k .1) (plus-zero-eq score (subst (λ (x : Float). T (eq x score)) (k .0) h))
   ]
 
-  first-lt : T (lt score (e .«min_score»)) → T (lt score (add binary64 nought (e .«min_score»)))
-  first-lt h = elim (nought-add binary64 (e .«min_score») u) [
+  first-lt : T (lt score (e .«min_score»)) → T (lt score (add binary64 plusZero (e .«min_score»)))
+  first-lt h = elim (plus-zero-add binary64 (e .«min_score») u) [
     | inl k ↦ rw k h
-    | inr k ↦ rw (k .1) (nought-lt score (subst (λ (x : Float). T (lt score x)) (k .0) h))
+    | inr k ↦ rw (k .1) (plus-zero-lt score (subst (λ (x : Float). T (lt score x)) (k .0) h))
   ]
 
-  flat-factor : (bin : ℕ) → bin ≤ 65536 → factor e score bin ≡ div binary64 (sub binary64 score (add binary64 nought (e .«min_score»))) nought
+  flat-factor : (bin : ℕ) → bin ≤ 65536 → factor e score bin ≡ div binary64 (sub binary64 score (add binary64 plusZero (e .«min_score»))) plusZero
   flat-factor bin h = rw (flat-score bin h, flat)
 
   flat-level : length bins ≤ 65536 → T (eq (e .«min_score») score) → posteriorError e bins score ≡ nan
   flat-level few h =
       all-nan e bins score
-      (λ bin l. flat-factor bin (omega arith) ∙ level-div (add binary64 nought (e .«min_score»)) score (first-eq h))
+      (λ bin l. flat-factor bin (omega arith) ∙ level-div (add binary64 plusZero (e .«min_score»)) score (first-eq h))
 
   flat-above : length bins ≤ 65536 → T (lt (e .«min_score») score) → posteriorError e bins score ≡ nan
   unfolding toUnsigned
@@ -358,9 +358,9 @@ module _ (e : Estimator) (bins : List Float) (score : Float) (t : T (fits binary
       let l : lastOf bins ≤ 2 ^ 64 - 1 = omega arith in
       past-last-nan e bins score (rw (steps-are, flat, q) l) (rw (flat, never-finite) (and-false (finite (getD bins (lastOf bins) nan))))
 
-  pub step-nought-above : length bins ≤ 65536 → T (le (e .«min_score») score) → posteriorError e bins score ≡ nan
+  pub step-plus-zero-above : length bins ≤ 65536 → T (le (e .«min_score») score) → posteriorError e bins score ≡ nan
   unfolding le
-  step-nought-above few h = elim (or-split (lt (e .«min_score») score) (eq (e .«min_score») score) h) [
+  step-plus-zero-above few h = elim (or-split (lt (e .«min_score») score) (eq (e .«min_score») score) h) [
     | inl k ↦ flat-above few k
     | inr k ↦ flat-level few k
   ]
@@ -369,8 +369,8 @@ module _ (e : Estimator) (bins : List Float) (score : Float) (t : T (fits binary
   unfolding toUnsigned
   flat-under h =
       let q = under-div (under (sub binary64 score (e .«min_score»)) (sub-below binary64 score (e .«min_score») t u h)) in
-      let first = add binary64 nought (e .«min_score») in
-      let k = under-div (under (sub binary64 score first) (sub-below binary64 score first t (add-fits binary64 nought (e .«min_score»)) (first-lt h))) in
+      let first = add binary64 plusZero (e .«min_score») in
+      let k = under-div (under (sub binary64 score first) (sub-below binary64 score first t (add-fits binary64 plusZero (e .«min_score»)) (first-lt h))) in
       first-used e bins score (rw (steps-are, flat, q))
       ∙ ap (interpolated (getD bins 0 nan) (getD bins (min (lastOf bins) 1) nan)) (flat-factor 0 (omega arith) ∙ k)
 
@@ -407,13 +407,13 @@ steep first second t u p = record {
   falling = λ h. rw (mul-under (under (sub binary64 second first) (sub-below binary64 second first u t h))) (add-infinite first false p);
 }
 
-pub step-nought-under : (e : Estimator) (bins : List Float) (score : Float) → T (fits binary64 score) → T (fits binary64 (e .«min_score»)) → e .«score_step» ≡ nought
+pub step-plus-zero-under : (e : Estimator) (bins : List Float) (score : Float) → T (fits binary64 score) → T (fits binary64 (e .«min_score»)) → e .«score_step» ≡ plusZero
     → T (lt score (e .«min_score»)) → T (fits binary64 (getD bins 0 nan)) → T (fits binary64 (getD bins (min (lastOf bins) 1) nan)) → T (finite (getD bins 0 nan))
     → Steep (getD bins 0 nan) (getD bins (min (lastOf bins) 1) nan) (posteriorError e bins score)
-step-nought-under e bins score t u flat h p q r = rw (flat-under e bins score t u flat h) (steep _ _ p q r)
+step-plus-zero-under e bins score t u flat h p q r = rw (flat-under e bins score t u flat h) (steep _ _ p q r)
 
-pub step-nought-one-bin : (e : Estimator) (bins : List Float) (score : Float) → T (fits binary64 score) → T (fits binary64 (e .«min_score»)) → e .«score_step» ≡ nought
+pub step-plus-zero-one-bin : (e : Estimator) (bins : List Float) (score : Float) → T (fits binary64 score) → T (fits binary64 (e .«min_score»)) → e .«score_step» ≡ plusZero
     → T (lt score (e .«min_score»)) → length bins ≡ 1 → posteriorError e bins score ≡ nan
-step-nought-one-bin e bins score t u flat h one =
+step-plus-zero-one-bin e bins score t u flat h one =
     let same : min (lastOf bins) 1 ≡ 0 = omega arith in
     flat-under e bins score t u flat h ∙ rw same (same-nan (getD bins 0 nan) (inf true) (and-false (finite (getD bins 0 nan))))

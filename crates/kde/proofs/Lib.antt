@@ -1,5 +1,5 @@
 pub mod Questions
-pub mod Columns
+pub mod Maps
 pub mod Counts
 pub mod Building
 pub mod Scores

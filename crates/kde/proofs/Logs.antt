@@ -1,5 +1,4 @@
 -- The −324.0 rule as the code tests it: a float equals an infinity only if it is that infinity.
--- Assumes nothing.
 use mathlib.Core.Path.{_≡_, refl}
 use mathlib.Core.Bool.{true, false, _||_, true≢false, false≢true}
 use lib.IntN.{pos}

@@ -1,5 +1,5 @@
 -- Monotonic bins never rise with the bin number: each is the greatest of the bins from its own to the last, where a NaN counts for nothing.
--- So it is a NaN only where all of those are, at the end of the column. Assumes nothing.
+-- So it is a NaN only where all of those are, at the end of the column.
 use mathlib.Core.Path.{_≡_, refl, sym, ap, _∙_, subst}
 use mathlib.Core.Logic.{_⊎_, inl, inr}
 use mathlib.Core.List.{List, [], _∷_}
@@ -11,8 +11,8 @@ use lib.Dec.{T}
 use lib.ListN.{length, getD, drop, length-drop}
 use lib.Seq.{getD-drop}
 use lib.Ieee.{Float, nan, isNan, le}
-use Rattle.floats.specs.Least.{greater}
-use Rattle.floats.proofs.Order.{le-refl, le-trans, le-right, greater-ge-left, greater-ge-right, greater-either}
+use Rattle.floats.specs.MinMax.{maxNumber}
+use Rattle.floats.proofs.Order.{le-refl, le-trans, le-right, max-ge-left, max-ge-right, max-either}
 use Rattle.kde.specs.Bins.{raisedFrom, raised}
 
 -- ---- the first place
@@ -25,27 +25,27 @@ module _ (start : Float) where
   head-most : (bins : List Float) (k : ℕ) → k < length bins → T (not (isNan (getD bins k nan))) → T (le (getD bins k nan) (head bins))
   unfolding raisedFrom head
   head-most [] k h p = absurd (not-suc-le-zero h)
-  head-most (b ∷ bins) zero h p = greater-ge-right (head bins) b p
+  head-most (b ∷ bins) zero h p = max-ge-right (head bins) b p
   head-most (b ∷ bins) (suc k) h p =
       let l = head-most bins k (le-of-suc-le-suc h) p in
-      le-trans (getD bins k nan) (head bins) (greater (head bins) b) l (greater-ge-left (head bins) b (le-right (getD bins k nan) (head bins) l))
+      le-trans (getD bins k nan) (head bins) (maxNumber (head bins) b) l (max-ge-left (head bins) b (le-right (getD bins k nan) (head bins) l))
 
   -- at least every later place that holds a number
   head-falls : (bins : List Float) (k : ℕ) → k < length bins → T (not (isNan (getD (raisedFrom start bins) k nan)))
       → T (le (getD (raisedFrom start bins) k nan) (head bins))
   unfolding raisedFrom head
   head-falls [] k h p = absurd (not-suc-le-zero h)
-  head-falls (b ∷ bins) zero h p = le-refl (greater (head bins) b) p
+  head-falls (b ∷ bins) zero h p = le-refl (maxNumber (head bins) b) p
   head-falls (b ∷ bins) (suc k) h p =
       let l = head-falls bins k (le-of-suc-le-suc h) p in
-      le-trans (getD (raisedFrom start bins) k nan) (head bins) (greater (head bins) b) l
-      (greater-ge-left (head bins) b (le-right (getD (raisedFrom start bins) k nan) (head bins) l))
+      le-trans (getD (raisedFrom start bins) k nan) (head bins) (maxNumber (head bins) b) l
+      (max-ge-left (head bins) b (le-right (getD (raisedFrom start bins) k nan) (head bins) l))
 
   -- one of the bins, or the value that the walk starts from
   head-one : (bins : List Float) → (head bins ≡ start) ⊎ ((k : ℕ) × (k < length bins) × (head bins ≡ getD bins k nan))
   unfolding raisedFrom head
   head-one [] = inl refl
-  head-one (b ∷ bins) = elim (greater-either (head bins) b) [
+  head-one (b ∷ bins) = elim (max-either (head bins) b) [
     | inr e ↦ inr (0, omega arith, e)
     | inl e ↦ elim (head-one bins) [ inl g ↦ inl (e ∙ g) | inr g ↦ inr (suc (g .0), omega arith, e ∙ g .2) ]
   ]

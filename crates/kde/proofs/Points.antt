@@ -1,11 +1,11 @@
 -- Points that a reader can check by hand, by computation: document 01's known points of this module, the inputs where a sentence of it is not true
--- to the bit, and what the Rust's formulas give for no scores and for one bin. Assumes nothing.
+-- to the bit, and what the Rust's formulas give for no scores and for one bin.
 use mathlib.Core.Path.{_≡_, refl}
 use mathlib.Core.List.{List, [], _∷_}
 use mathlib.Core.Bool.{true, false}
 use lib.IntN.{pos, negsuc}
 use lib.Ieee.{Float, nan, inf, fin, binary64, ofBits, ofInt, toUnsigned, neg, add, sub, mul, div}
-use Rattle.floats.specs.Least.{lesser, greater}
+use Rattle.floats.specs.MinMax.{minNumber, maxNumber}
 use Rattle.floats.specs.Convert.{converted}
 use Rattle.columns.specs.declared.Refusal.the-variants.{OutOfRange, NoTolerance}
 use Rattle.kde.specs.declared.Estimator.{Estimator}
@@ -38,9 +38,9 @@ under = refl
 
 -- ---- past the last bin the last value stands, but for one of −0: the score at the bin gives +0
 
-pub minus-nought-lost : posteriorError unit (fin true 0 (pos 0) ∷ []) (fin false 0 (pos 0)) ≡ fin false 0 (pos 0)
+pub minus-zero-lost : posteriorError unit (fin true 0 (pos 0) ∷ []) (fin false 0 (pos 0)) ≡ fin false 0 (pos 0)
 unfolding posteriorError toUnsigned ofInt add sub mul div
-minus-nought-lost = refl
+minus-zero-lost = refl
 
 -- ---- no scores: the least is f64::MAX and the step −infinity; one bin: the division by 0 gives an infinity, or a NaN for equal scores
 
@@ -49,11 +49,11 @@ unfolding estimatorOf ofBits neg sub div ofInt
 no-scores = refl
 
 pub one-bin : estimatorOf 1 (fin false 0 (pos 0) ∷ fin false 1 (pos 0) ∷ []) ≡ record { «min_score» = fin false 0 (pos 0); «score_step» = inf false }
-unfolding estimatorOf lesser greater ofBits neg sub div ofInt
+unfolding estimatorOf minNumber maxNumber ofBits neg sub div ofInt
 one-bin = refl
 
 pub one-bin-one-score : estimatorOf 1 (fin false 1 (pos 0) ∷ []) ≡ record { «min_score» = fin false 1 (pos 0); «score_step» = nan }
-unfolding estimatorOf lesser greater ofBits neg sub div ofInt
+unfolding estimatorOf minNumber maxNumber ofBits neg sub div ofInt
 one-bin-one-score = refl
 
 -- ---- "ppm −10 to 10: 100 bins. ppm −75.5 to 75: 151. Da −600 to 600: 1200. Da 0 to 65,537: 3. Pct: 4."

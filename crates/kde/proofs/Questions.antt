@@ -1,5 +1,4 @@
 -- What the questions' answers say of the numbers that were asked, for what the work after them requires.
--- Assumes nothing.
 use mathlib.Core.Path.{_≡_, refl}
 use mathlib.Core.Bool.{Bool, true, false, _&&_, cond}
 use Prim.Native.Nat.{ℕ, _≤_}

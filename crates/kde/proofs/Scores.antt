@@ -1,5 +1,4 @@
 -- The least and the greatest score are no more and no less than any score that is a number, and a NaN is passed over.
--- Assumes nothing.
 use mathlib.Core.Path.{_≡_, ap}
 use mathlib.Core.List.{List, [], _∷_, _++_}
 use mathlib.Core.Bool.{not}
@@ -8,39 +7,39 @@ use native.Mathlib.Nat.{not-suc-le-zero, le-of-suc-le-suc}
 use lib.Dec.{T}
 use lib.ListN.{length, getD}
 use lib.Ieee.{Float, nan, isNan, le}
-use Rattle.floats.specs.Least.{lesser, greater}
-use Rattle.floats.proofs.Order.{le-refl, le-trans, le-left, le-right, lesser-nan, greater-nan, lesser-le-left, lesser-le-right, greater-ge-left, greater-ge-right}
+use Rattle.floats.specs.MinMax.{minNumber, maxNumber}
+use Rattle.floats.proofs.Order.{le-refl, le-trans, le-left, le-right, min-nan, max-nan, min-le-left, min-le-right, max-ge-left, max-ge-right}
 use Rattle.kde.specs.Bins.{folded, leastScore, greatestScore}
 
-least-falls : (m : Float) (scores : List Float) → T (not (isNan m)) → T (le (folded lesser m scores) m)
+least-falls : (m : Float) (scores : List Float) → T (not (isNan m)) → T (le (folded minNumber m scores) m)
 unfolding folded
 least-falls m [] p = le-refl m p
 least-falls m (s ∷ scores) p =
-    let l = lesser-le-left m s p in
-    le-trans (folded lesser (lesser m s) scores) (lesser m s) m (least-falls (lesser m s) scores (le-left (lesser m s) m l)) l
+    let l = min-le-left m s p in
+    le-trans (folded minNumber (minNumber m s) scores) (minNumber m s) m (least-falls (minNumber m s) scores (le-left (minNumber m s) m l)) l
 
-least-from : (m : Float) (scores : List Float) (k : ℕ) → k < length scores → T (not (isNan (getD scores k nan))) → T (le (folded lesser m scores) (getD scores k nan))
+least-from : (m : Float) (scores : List Float) (k : ℕ) → k < length scores → T (not (isNan (getD scores k nan))) → T (le (folded minNumber m scores) (getD scores k nan))
 unfolding folded
 least-from m [] k h p = absurd (not-suc-le-zero h)
 least-from m (s ∷ scores) zero h p =
-    let l = lesser-le-right m s p in
-    le-trans (folded lesser (lesser m s) scores) (lesser m s) s (least-falls (lesser m s) scores (le-left (lesser m s) s l)) l
-least-from m (s ∷ scores) (suc k) h p = least-from (lesser m s) scores k (le-of-suc-le-suc h) p
+    let l = min-le-right m s p in
+    le-trans (folded minNumber (minNumber m s) scores) (minNumber m s) s (least-falls (minNumber m s) scores (le-left (minNumber m s) s l)) l
+least-from m (s ∷ scores) (suc k) h p = least-from (minNumber m s) scores k (le-of-suc-le-suc h) p
 
-greatest-rises : (m : Float) (scores : List Float) → T (not (isNan m)) → T (le m (folded greater m scores))
+greatest-rises : (m : Float) (scores : List Float) → T (not (isNan m)) → T (le m (folded maxNumber m scores))
 unfolding folded
 greatest-rises m [] p = le-refl m p
 greatest-rises m (s ∷ scores) p =
-    let l = greater-ge-left m s p in
-    le-trans m (greater m s) (folded greater (greater m s) scores) l (greatest-rises (greater m s) scores (le-right m (greater m s) l))
+    let l = max-ge-left m s p in
+    le-trans m (maxNumber m s) (folded maxNumber (maxNumber m s) scores) l (greatest-rises (maxNumber m s) scores (le-right m (maxNumber m s) l))
 
-greatest-from : (m : Float) (scores : List Float) (k : ℕ) → k < length scores → T (not (isNan (getD scores k nan))) → T (le (getD scores k nan) (folded greater m scores))
+greatest-from : (m : Float) (scores : List Float) (k : ℕ) → k < length scores → T (not (isNan (getD scores k nan))) → T (le (getD scores k nan) (folded maxNumber m scores))
 unfolding folded
 greatest-from m [] k h p = absurd (not-suc-le-zero h)
 greatest-from m (s ∷ scores) zero h p =
-    let l = greater-ge-right m s p in
-    le-trans s (greater m s) (folded greater (greater m s) scores) l (greatest-rises (greater m s) scores (le-right s (greater m s) l))
-greatest-from m (s ∷ scores) (suc k) h p = greatest-from (greater m s) scores k (le-of-suc-le-suc h) p
+    let l = max-ge-right m s p in
+    le-trans s (maxNumber m s) (folded maxNumber (maxNumber m s) scores) l (greatest-rises (maxNumber m s) scores (le-right s (maxNumber m s) l))
+greatest-from m (s ∷ scores) (suc k) h p = greatest-from (maxNumber m s) scores k (le-of-suc-le-suc h) p
 
 module _ (scores : List Float) (k : ℕ) (h : k < length scores) (p : T (not (isNan (getD scores k nan)))) where
   pub least-at-most : T (le (leastScore scores) (getD scores k nan))
@@ -55,7 +54,7 @@ passed f e m [] r = ap (λ (x : Float). folded f x r) (e m)
 passed f e m (s ∷ l) r = passed f e (f m s) l r
 
 pub least-passes-nan : (l r : List Float) → leastScore (l ++ nan ∷ r) ≡ leastScore (l ++ r)
-least-passes-nan l r = passed lesser lesser-nan _ l r
+least-passes-nan l r = passed minNumber min-nan _ l r
 
 pub greatest-passes-nan : (l r : List Float) → greatestScore (l ++ nan ∷ r) ≡ greatestScore (l ++ r)
-greatest-passes-nan l r = passed greater greater-nan _ l r
+greatest-passes-nan l r = passed maxNumber max-nan _ l r

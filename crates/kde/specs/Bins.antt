@@ -7,11 +7,12 @@ use Prim.Native.Nat.{ℕ, _+_, _-_, _≤_}
 use lib.Dec.{eqb}
 use lib.IntN.{ℤ, pos}
 use lib.ListN.{length, getD}
-use lib.Ieee.{Float, nan, fin, binary64, ofBits, ofInt, neg, add, sub, mul, div}
-use Rattle.folds.specs.Columns.{filled, tabulated}
+use lib.Ieee.{Float, nan, fin, binary64, ofInt, add, sub, mul, div}
+use Rattle.floats.specs.Constants.{f64Max, f64Min}
+use Rattle.folds.specs.Lists.{filled, tabulated}
 use Rattle.columns.specs.Refusals.{longest, ifAccepted}
 use Rattle.counting.specs.Labels.{decoys}
-use Rattle.floats.specs.Least.{lesser, greater}
+use Rattle.floats.specs.MinMax.{minNumber, maxNumber}
 use Rattle.columns.specs.declared.Outcome.{Outcome}
 use Rattle.columns.specs.declared.Outcome.the-variants.{Accepted, Refused}
 use Rattle.kde.specs.declared.Estimator.{Estimator}
@@ -27,10 +28,6 @@ freshBuilder = record { monotonic = true; bins = 1000 }
 
 -- ---- step one: the scores of the bins
 
--- f64::MAX; f64::MIN is its negative
-abbrev pub largest : Float
-largest = ofBits binary64 9218868437227405311
-
 -- f over a list in its order, from the value b on
 unfoldable pub folded : {A B : Type 0} → (B → A → B) → B → List A → B
 folded f b [] = b
@@ -38,10 +35,10 @@ folded f b (a ∷ l) = folded f (f b a) l
 
 -- "min and max that ignore a NaN", the accumulated one first, from f64::MAX and f64::MIN on
 abbrev pub leastScore : List Float → Float
-leastScore scores = folded lesser largest scores
+leastScore scores = folded minNumber f64Max scores
 
 abbrev pub greatestScore : List Float → Float
-greatestScore scores = folded greater (neg largest) scores
+greatestScore scores = folded maxNumber f64Min scores
 
 -- an estimator's two numbers
 abbrev pub estimator : Float → Float → Estimator
@@ -105,11 +102,11 @@ mixed pi decoyDensity targetDensity bins = tabulated (binAt pi decoyDensity targ
 
 -- "Monotonic bins take the running maximum from the last bin down", which starts from the value given
 unfoldable pub raisedFrom : Float → List Float → List Float
-unfolding greater
+unfolding maxNumber
 raisedFrom start [] = []
 raisedFrom start (b ∷ bins) =
     let later = raisedFrom start bins in
-    greater (getD later 0 start) b ∷ later
+    maxNumber (getD later 0 start) b ∷ later
 
 -- from the last bin's own value
 unfoldable pub raised : List Float → List Float

@@ -7,7 +7,7 @@ use lib.Dec.{eqb}
 use lib.ListN.{length, getD}
 use lib.Ieee.{Float, nan, binary64, toUnsigned, add, sub, mul, div}
 use Rattle.columns.specs.Refusals.{ifAccepted}
-use Rattle.folds.specs.Columns.{filled}
+use Rattle.folds.specs.Lists.{filled}
 use Rattle.floats.specs.Whole.{floored}
 use Rattle.columns.specs.declared.Refusal.the-variants.{OutOfRange}
 use Rattle.columns.specs.declared.Outcome.{Outcome}

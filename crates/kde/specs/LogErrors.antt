@@ -8,7 +8,7 @@ use lib.IntN.{pos}
 use lib.ListN.{length}
 use lib.Ieee.{Float, nan, inf, fin, binary32}
 use Rattle.columns.specs.Refusals.{ifAccepted}
-use Rattle.folds.specs.Columns.{filled}
+use Rattle.folds.specs.Lists.{filled}
 use Rattle.floats.specs.Convert.{converted}
 use Rattle.columns.specs.declared.Outcome.{Outcome}
 use Rattle.kde.specs.Answers.{lengthsAsked}

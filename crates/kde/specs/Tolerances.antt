@@ -6,7 +6,7 @@ use lib.IntN.{pos}
 use lib.Ieee.{Float, fin, binary32, toUnsigned, sub}
 use Rattle.floats.specs.Signs.{absolute}
 use Rattle.floats.specs.Whole.{ceiled}
-use Rattle.floats.specs.Least.{greater}
+use Rattle.floats.specs.MinMax.{maxNumber}
 use Rattle.columns.specs.declared.Refusal.the-variants.{OutOfRange, NoTolerance}
 use Rattle.kde.specs.declared.Tolerance.{Tolerance}
 use Rattle.kde.specs.declared.Tolerance.the-variants.{Ppm, Da, Pct}
@@ -16,8 +16,8 @@ use Rattle.kde.specs.Answers.{inRange}
 
 -- Rust's (hi - lo).max(least).ceil().abs() as usize, in f32
 unfoldable pub binsAcross : Float → Float → Float → ℕ
-unfolding ceiled greater
-binsAcross lo hi least = toUnsigned 64 (absolute (ceiled binary32 (greater (sub binary32 hi lo) least)))
+unfolding ceiled maxNumber
+binsAcross lo hi least = toUnsigned 64 (absolute (ceiled binary32 (maxNumber (sub binary32 hi lo) least)))
 
 -- Question 3, for a count
 abbrev pub countAnswer : ℕ → BinCount

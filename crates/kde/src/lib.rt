@@ -8,7 +8,7 @@ ghost use lib.IntN.{pos};
 ghost use lib.ListN.{length};
 ghost use mathlib.Core.List.{map};
 ghost use lib.Ieee.{fin, lt};
-ghost use Rattle.folds.specs.Columns.{tabulated};
+ghost use Rattle.folds.specs.Lists.{tabulated};
 ghost use Rattle.kde.specs.Answers.{inRange, lengthsAsked, asked};
 ghost use Rattle.kde.specs.Bins.{freshBuilder, leastScore, greatestScore, binScore, binScoresAnswer, binScoresColumn, howMany, mixed, raised, Ready, binsOf, binsAsked, labelBins, slotBins};
 ghost use Rattle.kde.specs.Estimate.{stepsUp, posteriorError, posteriorAnswer, errorsAnswer, errorsColumn};

@@ -1,5 +1,5 @@
 -- The line check's answer: one law for each way that the call can go. A line is right exactly where no later row qualifies and the line is 0 or
--- its own row qualifies; `answers-right` and `right-answered` say so of the definition. Assumes nothing.
+-- its own row qualifies; `answers-right` and `right-answered` say so of the definition.
 use mathlib.Core.Path.{_≡_, refl, sym, ap, _∙_}
 use mathlib.Core.Logic.{_⊎_, inl, inr}
 use mathlib.Core.List.{List}

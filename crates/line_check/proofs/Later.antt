@@ -1,5 +1,4 @@
 -- The pass of the line check: the counts so far (`Tally`), and those of the last row after the line that qualifies, or of the line itself.
--- Assumes nothing.
 use mathlib.Core.Path.{_≡_, refl, sym, ap, _∙_}
 use mathlib.Core.List.{List}
 use mathlib.Core.Bool.{true, false}

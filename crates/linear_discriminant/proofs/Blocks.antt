@@ -1,12 +1,12 @@
 -- A column written block by block: where the entries before a are f's, they are f's before b once the block from a to b is written with values
--- that are f's there. Assumes nothing.
+-- that are f's there.
 use mathlib.Core.Path.{_≡_, subst}
 use Prim.Native.Nat.{ℕ, zero, suc, _+_, _-_, _≤_, _<_}
 use mathlib.Core.List.{List}
 use native.Mathlib.Omega.{arith}
 use lib.Ieee.{Float}
 use Rattle.folds.specs.Walks.{steps}
-use Rattle.folds.proofs.Columns.{Writing, writing-step}
+use Rattle.folds.proofs.Writing.{Writing, writing-step}
 use Rattle.linear_discriminant.specs.Blocks.{write, written}
 
 module _ {f g : ℕ → Float} {d : Float} {n : ℕ} where

@@ -1,4 +1,4 @@
--- A label's class, as the code finds it without a branch, and the counts of both classes. Assumes nothing.
+-- A label's class, as the code finds it without a branch, and the counts of both classes.
 use mathlib.Core.Path.{_≡_, refl, ap, _∙_}
 use mathlib.Core.List.{List}
 use mathlib.Core.Bool.{Bool, true, false, not, cond}
@@ -15,7 +15,7 @@ use mir.ValLaws.{toZ-ofZ}
 use Rattle.counting.specs.Labels.{isDecoy, decoys, targets}
 use Rattle.counting.proofs.Labels.{both}
 use Rattle.counting.proofs.Tally.{label-test}
-use Rattle.gauss.specs.Elimination.{Table, row}
+use Rattle.gauss.specs.Elimination.{Matrix, row}
 use Rattle.linear_discriminant.specs.Fit.{classOf}
 use Rattle.linear_discriminant.specs.Passes.{addedRow, sumRow}
 
@@ -38,7 +38,7 @@ pub class-told : (l : ℤ) {c : ℕ} → mag l < 2 ^ 31 → (c ≡ classOf (toZ 
 class-told l f e = e .0 ∙ ap classOf (toZ-ofZ w32 l (record { sfits = f }))
 
 -- a row that goes to its class's sums
-pub sum-turn : (features : List Float) (labels : List ℤ) (i : ℕ) (sums : Table) {c : ℕ} {r : List Float} → c ≡ classOf (getD labels i (pos 0))
+pub sum-turn : (features : List Float) (labels : List ℤ) (i : ℕ) (sums : Matrix) {c : ℕ} {r : List Float} → c ≡ classOf (getD labels i (pos 0))
     → r ≡ addedRow features i (row sums c) → set sums c r ≡ sumRow features labels i sums
 sum-turn features labels i sums {c} e f = ap (set sums c) f ∙ ap (λ (c : ℕ). set sums c (addedRow features i (row sums c))) e
 

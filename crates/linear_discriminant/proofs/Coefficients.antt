@@ -1,4 +1,4 @@
--- Whether a coefficient, and whether all of them, are finite: what the code's two comparisons say, and its loop. Assumes nothing.
+-- Whether a coefficient, and whether all of them, are finite: what the code's two comparisons say, and its loop.
 use mathlib.Core.Path.{_≡_, refl, ap, _∙_}
 use mathlib.Core.Bool.{Bool, true, false, _&&_}
 use Prim.Native.Nat.{ℕ, _+_, _≤_}
@@ -6,10 +6,11 @@ use native.Mathlib.Numerals.{add-one}
 use native.Mathlib.Omega.{arith}
 use lib.Ieee.{Float, nan, inf, fin, binary64, ofBits, lt, div, neg, round}
 use Rattle.folds.specs.Walks.{every}
-use Rattle.gauss.specs.Elimination.{nought, one}
+use Rattle.floats.specs.Constants.{f64Zero}
+use Rattle.floats.specs.Constants.{f64One}
 use Rattle.linear_discriminant.specs.Scores.{isFinite}
 
-pub between-infinities : (x : Float) → (lt x (div binary64 one nought) && lt (div binary64 (neg one) nought) x) ≡ isFinite x
+pub between-infinities : (x : Float) → (lt x (div binary64 f64One f64Zero) && lt (div binary64 (neg f64One) f64Zero) x) ≡ isFinite x
 unfolding lt div neg ofBits round
 between-infinities nan = refl
 between-infinities (inf true) = refl

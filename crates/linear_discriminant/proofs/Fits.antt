@@ -1,5 +1,4 @@
 -- The passes joined: what `fit_classes` makes of the counts is the definition's system, and each question's refusal is the definition's case.
--- Assumes nothing.
 use mathlib.Core.Path.{_≡_, sym, ap, _∙_}
 use mathlib.Core.List.{List, [], _∷_}
 use mathlib.Core.Bool.{Bool, true, false, cond, _||_}
@@ -10,12 +9,13 @@ use lib.IntN.{ℤ}
 use lib.ListN.{length, getD, replicate}
 use lib.Ieee.{Float, nan, binary64, add, sub, mul, div}
 use borrow.Author.Tests.{le-leb, lt-leb, eq-eqb, ne-eqb}
-use Rattle.folds.specs.Columns.{tabulated}
+use Rattle.folds.specs.Lists.{tabulated}
 use Rattle.columns.specs.declared.Refusal.{Refusal}
 use Rattle.columns.specs.declared.Refusal.the-variants.{TooLong, WrongLength, OneClass}
 use Rattle.columns.specs.Refusals.{longest}
 use Rattle.counting.specs.Labels.{decoys, targets}
-use Rattle.gauss.specs.Elimination.{nought, Row, Table, row}
+use Rattle.floats.specs.Constants.{f64Zero}
+use Rattle.gauss.specs.Elimination.{Vector, Matrix, row}
 use Rattle.gauss.specs.Solutions.{solution}
 use Rattle.gauss.specs.declared.Solved.{Solved}
 use Rattle.gauss.specs.declared.Solved.the-variants as solved
@@ -25,28 +25,28 @@ use Rattle.linear_discriminant.specs.declared.Trained.the-variants.{Coef
 use Rattle.linear_discriminant.specs.declared.Model.{Model}
 use Rattle.linear_discriminant.specs.Rows.{feature}
 use Rattle.linear_discriminant.specs.Fit.{inClass, classCount, asFloat, summed, mean, scatter, within, difference, leftSide, rightSide, trainedOf, modelOf, blankModel, fitted, trained}
-use Rattle.linear_discriminant.specs.Passes.{summedRows, meanOf, tableOf, halfOf, halves, scatterOf, withinRow, withinTable, lessRow, meansOf, fittedWith}
-use Rattle.folds.proofs.Walks.{across-same}
-use Rattle.folds.proofs.Columns.{tabulated-same, tabulated-at}
+use Rattle.linear_discriminant.specs.Passes.{summedRows, meanOf, tableOf, halfOf, halves, scatterOf, withinRow, withinTable, rowDifference, meansOf, fittedWith}
+use Rattle.folds.proofs.Walks.{for-range-same}
+use Rattle.folds.proofs.Writing.{tabulated-same, tabulated-at}
 use Rattle.linear_discriminant.proofs.Sums.{classSum, sums-are}
 use Rattle.linear_discriminant.proofs.Scatter.{scatter-is}
 
 module _ (features : List Float) (labels : List ℤ) where
   -- ---- the means
 
-  abbrev meanRow : ℕ → Row
+  abbrev meanRow : ℕ → Vector
   meanRow c = tabulated (mean features labels c) 0 20
 
   mean-row : (c n : ℕ) → c < 2 → n ≡ classCount labels c
-      → meanOf (row (summedRows features labels 0 (length labels) (replicate 2 (replicate 20 nought))) c) n ≡ meanRow c
+      → meanOf (row (summedRows features labels 0 (length labels) (replicate 2 (replicate 20 f64Zero))) c) n ≡ meanRow c
   unfolding meanOf mean
   mean-row c n h e = tabulated-same 20 (λ j l. ap (λ (s : Float). div binary64 s (asFloat n)) (read j l) ∙ ap (λ (n : ℕ). div binary64 (classSum features labels c (length labels) j) (asFloat n)) e)
     where
       read : (j : ℕ) → j < 20
-          → getD (row (summedRows features labels 0 (length labels) (replicate 2 (replicate 20 nought))) c) j nan ≡ classSum features labels c (length labels) j
+          → getD (row (summedRows features labels 0 (length labels) (replicate 2 (replicate 20 f64Zero))) c) j nan ≡ classSum features labels c (length labels) j
       read j l =
-          ap (λ (s : Table). getD (row s c) j nan) (sums-are features labels (length labels))
-          ∙ ap (λ (r : Row). getD r j nan) (tabulated-at (λ c. tabulated (classSum features labels c (length labels)) 0 20) 2 c [] h)
+          ap (λ (s : Matrix). getD (row s c) j nan) (sums-are features labels (length labels))
+          ∙ ap (λ (r : Vector). getD r j nan) (tabulated-at (λ c. tabulated (classSum features labels c (length labels)) 0 20) 2 c [] h)
           ∙ tabulated-at (classSum features labels c (length labels)) 20 j nan l
 
   means-are : {d t : ℕ} → d ≡ decoys labels → t ≡ targets labels → meansOf features labels d t ≡ meanRow 0 ∷ meanRow 1 ∷ []
@@ -59,7 +59,7 @@ module _ (features : List Float) (labels : List ℤ) where
   unfolding scatter summed
   scatter-at c j k h l =
       scatter-is features labels (meanRow c) c (length labels) j k h l
-      ∙ across-same 0 (length labels) nought
+      ∙ for-range-same 0 (length labels) f64Zero
       (λ i p q s. ap (λ (x : Float). cond (inClass labels c i) (add binary64 s x) s) (same i (tabulated-at (mean features labels c) 20 j nan h) (tabulated-at (mean features labels c) 20 k nan l)))
     where
       same : (i : ℕ) {a a′ b b′ : Float} → a ≡ a′ → b ≡ b′
@@ -74,23 +74,23 @@ module _ (features : List Float) (labels : List ℤ) where
   left-is {d} {t} e f =
       tabulated-same 20 (λ j h. tabulated-same 20 (λ k l. rw (scatter-at 0 j k h l, scatter-at 1 j k h l, e, f)))
 
-  right-is : lessRow (meanRow 1) (meanRow 0) ≡ rightSide features labels
-  unfolding lessRow rightSide difference
+  right-is : rowDifference (meanRow 1) (meanRow 0) ≡ rightSide features labels
+  unfolding rowDifference rightSide difference
   right-is = tabulated-same 20 (λ j h. rw (tabulated-at (mean features labels 1) 20 j nan h, tabulated-at (mean features labels 0) 20 j nan h))
 
   pub fitted-with : {d t : ℕ} → d ≡ decoys labels → t ≡ targets labels
       → fittedWith features labels d t ≡ modelOf (solution (leftSide features labels) (rightSide features labels) 20)
   unfolding fittedWith halves tabulated
   fitted-with {d} {t} e f =
-      ap system (means-are e f) ∙ ap (λ (l : Table). modelOf (solution l (lessRow (meanRow 1) (meanRow 0)) 20)) (left-is e f)
-      ∙ ap (λ (r : Row). modelOf (solution (leftSide features labels) r 20)) right-is
+      ap system (means-are e f) ∙ ap (λ (l : Matrix). modelOf (solution l (rowDifference (meanRow 1) (meanRow 0)) 20)) (left-is e f)
+      ∙ ap (λ (r : Vector). modelOf (solution (leftSide features labels) r 20)) right-is
     where
-      system : Table → Model
+      system : Matrix → Model
       system means =
           modelOf
           (solution
           (withinTable (getD (halves features labels means) 0 []) (getD (halves features labels means) 1 []) (asFloat d) (asFloat t))
-          (lessRow (row means 1) (row means 0))
+          (rowDifference (row means 1) (row means 0))
           20)
 
   -- ---- the questions, in their order
@@ -135,7 +135,7 @@ module _ (features : List Float) (labels : List ℤ) where
 
 -- ---- a solution as a model
 
-abbrev pub modelWith : Trained → Row → Model
+abbrev pub modelWith : Trained → Vector → Model
 modelWith answer values = record { answer = answer; coefficients = values }
 
 module _ (s : Solution) where
@@ -147,10 +147,10 @@ module _ (s : Solution) where
 
 -- ---- the calls of `fit_classes` one after the other
 
-pub fitted-by-passes : (features : List Float) (labels : List ℤ) (d t : ℕ) {sums left : Table} {decoy target right : Row} {tables : List Table} {s : Solution} {r : Model}
-    → sums ≡ summedRows features labels 0 (length labels) (replicate 2 (replicate 20 nought))
+pub fitted-by-passes : (features : List Float) (labels : List ℤ) (d t : ℕ) {sums left : Matrix} {decoy target right : Vector} {tables : List Matrix} {s : Solution} {r : Model}
+    → sums ≡ summedRows features labels 0 (length labels) (replicate 2 (replicate 20 f64Zero))
     → decoy ≡ meanOf (row sums 0) d → target ≡ meanOf (row sums 1) t → tables ≡ halves features labels (decoy ∷ target ∷ [])
-    → left ≡ withinTable (getD tables 0 []) (getD tables 1 []) (asFloat d) (asFloat t) → right ≡ lessRow target decoy → s ≡ solution left right 20
+    → left ≡ withinTable (getD tables 0 []) (getD tables 1 []) (asFloat d) (asFloat t) → right ≡ rowDifference target decoy → s ≡ solution left right 20
     → r ≡ modelOf s → r ≡ fittedWith features labels d t
 unfolding fittedWith
 fitted-by-passes features labels d t a b c e f g h i = rw (i, h, f, g, e, b, c, a)

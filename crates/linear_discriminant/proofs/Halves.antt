@@ -1,5 +1,5 @@
 -- Places of the half of the scatter that is kept: a kept row's columns, and in which table row columns j and k meet. The facts on places are
--- tests over the 400 pairs, computed. Assumes nothing.
+-- tests over the 400 pairs, computed.
 use mathlib.Core.Path.{_≡_, sym, ap, _∙_, subst}
 use mathlib.Core.Logic.{_⊎_, inl, inr}
 use mathlib.Core.List.{List}
@@ -13,7 +13,7 @@ use borrow.Author.Tests.{lt-ltb, le-ltb}
 use Rattle.folds.specs.Walks.{every}
 use Rattle.folds.proofs.Tests.{or-split}
 use Rattle.folds.proofs.Walks.{every-at}
-use Rattle.gauss.specs.Elimination.{Table, entry}
+use Rattle.gauss.specs.Elimination.{Matrix, entry}
 use Rattle.linear_discriminant.specs.Rows.{feature}
 use Rattle.linear_discriminant.specs.Passes.{wrap, centredAt, width, columnOf, placeOf, scatterOf}
 
@@ -78,7 +78,7 @@ column-at j k h l n =
 
 -- ---- as the code finds them
 
-pub scatter-own : (table : Table) (j k : ℕ) {d w : ℕ} → d ≡ placeOf j k → w ≡ width j → d < w → entry table j d ≡ scatterOf table j k
+pub scatter-own : (table : Matrix) (j k : ℕ) {d w : ℕ} → d ≡ placeOf j k → w ≡ width j → d < w → entry table j d ≡ scatterOf table j k
 unfolding scatterOf
 scatter-own table j k {d} {w} p q h =
     let t : ltb (placeOf j k) (width j) ≡ true = lt-ltb (placeOf j k) (width j) (subst (λ (n : ℕ). n < width j) p (subst (λ (n : ℕ). d < n) q h)) in
@@ -95,7 +95,7 @@ module _ (j k : ℕ) {d w : ℕ} where
       let u : placeOf k j < 12 = omega arith in
       subst (λ (n : ℕ). n < 12) (sym r) u
 
-pub scatter-other : (table : Table) (j k : ℕ) {d w e : ℕ} → d ≡ placeOf j k → w ≡ width j → w ≤ d → e ≡ placeOf k j → entry table k e ≡ scatterOf table j k
+pub scatter-other : (table : Matrix) (j k : ℕ) {d w e : ℕ} → d ≡ placeOf j k → w ≡ width j → w ≤ d → e ≡ placeOf k j → entry table k e ≡ scatterOf table j k
 unfolding scatterOf
 scatter-other table j k p q h r =
     let t : ltb (placeOf j k) (width j) ≡ false = le-ltb (placeOf j k) (width j) (past j k p q h) in

@@ -1,4 +1,4 @@
--- Twenty features for each row, asked by quotient and remainder. Assumes nothing.
+-- Twenty features for each row, asked by quotient and remainder.
 use mathlib.Core.Path.{_≡_, refl, sym, _∙_}
 use mathlib.Core.Bool.{Bool, true, false, not, _&&_}
 use Prim.Native.Nat.{ℕ, _*_, _/_, _%_}

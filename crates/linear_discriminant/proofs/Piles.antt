@@ -1,5 +1,4 @@
 -- Kept rows added to a table: what `add_pair` has in its two rows after g of them, and what `add_kept` makes of a whole table, entry by entry.
--- Assumes nothing.
 use mathlib.Core.Path.{_≡_, refl, sym, ap, _∙_}
 use mathlib.Core.List.{List}
 use mathlib.Core.Bool.{Bool, true, false, cond}
@@ -8,36 +7,36 @@ use native.Mathlib.Omega.{arith}
 use lib.Dec.{ltb}
 use lib.ListN.{length, getD, set}
 use lib.Ieee.{Float, nan}
-use Rattle.folds.specs.Walks.{steps, across}
-use Rattle.folds.specs.Columns.{tabulated}
-use Rattle.folds.proofs.Columns.{length-tabulated, tabulated-same, tabulated-at}
-use Rattle.gauss.specs.Elimination.{Table, row, entry}
-use Rattle.linear_discriminant.specs.Passes.{addProductOf, piled, pairAdded, keptAdded, width, tableOf}
-use Rattle.folds.proofs.Walks.{across-last}
+use Rattle.folds.specs.Walks.{steps, forRange}
+use Rattle.folds.specs.Lists.{tabulated}
+use Rattle.folds.proofs.Writing.{length-tabulated, tabulated-same, tabulated-at}
+use Rattle.gauss.specs.Elimination.{Matrix, row, entry}
+use Rattle.linear_discriminant.specs.Passes.{addProductOf, accumulated, pairAdded, keptAdded, width, tableOf}
+use Rattle.folds.proofs.Walks.{for-range-last}
 
-module _ (w : ℕ) (kept : Table) (j start : ℕ) (table : Table) where
-  pub length-piled : (g : ℕ) {a : List Float} → a ≡ piled w kept g j start table → length a ≡ 12
-  unfolding piled
+module _ (w : ℕ) (kept : Matrix) (j start : ℕ) (table : Matrix) where
+  pub length-piled : (g : ℕ) {a : List Float} → a ≡ accumulated w kept g j start table → length a ≡ 12
+  unfolding accumulated
   length-piled g e =
       ap length e
-      ∙ length-tabulated (λ d. cond (ltb d w) (across (λ g. addProductOf j (start + d) (row kept g)) 0 g (entry table j d)) (entry table j d)) 0 12
+      ∙ length-tabulated (λ d. cond (ltb d w) (forRange (λ g. addProductOf j (start + d) (row kept g)) 0 g (entry table j d)) (entry table j d)) 0 12
 
-  pub piled-none : {a : List Float} → a ≡ tabulated (entry table j) 0 12 → a ≡ piled w kept 0 j start table
-  unfolding piled steps
-  piled-none e = e ∙ tabulated-same 12 (λ d h. go (ltb d w) (entry table j d))
+  pub accumulated-none : {a : List Float} → a ≡ tabulated (entry table j) 0 12 → a ≡ accumulated w kept 0 j start table
+  unfolding accumulated steps
+  accumulated-none e = e ∙ tabulated-same 12 (λ d h. go (ltb d w) (entry table j d))
     where
       go : (b : Bool) (x : Float) → x ≡ cond b x x
       go true x = refl
       go false x = refl
 
-  pub piled-more : (g : ℕ) {a₀ a : List Float} → a₀ ≡ piled w kept g j start table
+  pub accumulated-more : (g : ℕ) {a₀ a : List Float} → a₀ ≡ accumulated w kept g j start table
       → a ≡ tabulated (λ d. cond (ltb d w) (addProductOf j (start + d) (row kept g) (getD a₀ d nan)) (getD a₀ d nan)) 0 12
-      → a ≡ piled w kept (g + 1) j start table
-  unfolding piled
-  piled-more g {a₀} p e = e ∙ tabulated-same 12 (λ d h. at d h)
+      → a ≡ accumulated w kept (g + 1) j start table
+  unfolding accumulated
+  accumulated-more g {a₀} p e = e ∙ tabulated-same 12 (λ d h. at d h)
     where
       sums : ℕ → ℕ → Float
-      sums n d = across (λ g. addProductOf j (start + d) (row kept g)) 0 n (entry table j d)
+      sums n d = forRange (λ g. addProductOf j (start + d) (row kept g)) 0 n (entry table j d)
 
       go : (b : Bool) (f : Float → Float) (x y z v : Float) → v ≡ cond b x z → y ≡ f x → cond b (f v) v ≡ cond b y z
       go true f x y z v q r = ap f q ∙ sym r
@@ -48,10 +47,10 @@ module _ (w : ℕ) (kept : Table) (j start : ℕ) (table : Table) where
       at d h =
           go (ltb d w) (addProductOf j (start + d) (row kept g)) (sums g d) (sums (g + 1) d) (entry table j d) (getD a₀ d nan)
           (ap (λ (l : List Float). getD l d nan) p ∙ tabulated-at (λ d. cond (ltb d w) (sums g d) (entry table j d)) 12 d nan h)
-          (across-last (λ g. addProductOf j (start + d) (row kept g)) 0 g (entry table j d) zero-le)
+          (for-range-last (λ g. addProductOf j (start + d) (row kept g)) 0 g (entry table j d) zero-le)
 
-pub pair-done : (w : ℕ) (kept : Table) (j : ℕ) (table : Table) (g m : ℕ) {a b : List Float} → g ≤ m → m ≤ g → a ≡ piled w kept g j j table
-    → b ≡ piled w kept g (j + 1) j table → set (set table j a) (j + 1) b ≡ pairAdded w kept m j table
+pub pair-done : (w : ℕ) (kept : Matrix) (j : ℕ) (table : Matrix) (g m : ℕ) {a b : List Float} → g ≤ m → m ≤ g → a ≡ accumulated w kept g j j table
+    → b ≡ accumulated w kept g (j + 1) j table → set (set table j a) (j + 1) b ≡ pairAdded w kept m j table
 unfolding pairAdded
 pair-done w kept j table g m h l p q =
     let z : g ≡ m = omega arith in
@@ -59,8 +58,8 @@ pair-done w kept j table g m h l p q =
 
 -- ---- a whole table
 
-pub kept-added : (kept : Table) (m : ℕ) (f : ℕ → ℕ → Float)
+pub kept-added : (kept : Matrix) (m : ℕ) (f : ℕ → ℕ → Float)
     → keptAdded kept m (tableOf f)
-    ≡ tableOf (λ j d. cond (ltb d (width j)) (across (λ g. addProductOf j (2 * (j / 2) + d) (row kept g)) 0 m (f j d)) (f j d))
-unfolding keptAdded pairAdded piled steps tabulated
+    ≡ tableOf (λ j d. cond (ltb d (width j)) (forRange (λ g. addProductOf j (2 * (j / 2) + d) (row kept g)) 0 m (f j d)) (f j d))
+unfolding keptAdded pairAdded accumulated steps tabulated
 kept-added kept m f = refl

@@ -1,4 +1,4 @@
--- What each way through the scoring run leaves, beside the definition's case. Assumes nothing.
+-- What each way through the scoring run leaves, beside the definition's case.
 use mathlib.Core.Path.{_≡_, refl, sym, ap, _∙_}
 use mathlib.Core.Bool.{Bool, true, false, cond, _&&_}
 use mathlib.Core.List.{List}
@@ -7,8 +7,8 @@ use lib.Dec.{eqb}
 use borrow.Author.Tests.{le-leb, lt-leb, eqb-true, eq-eqb}
 use lib.ListN.{length}
 use lib.Ieee.{Float, nan, binary32, binary64, div, ofBits}
-use Rattle.folds.specs.Columns.{filled}
-use Rattle.folds.proofs.Columns.{Writing, writing-done}
+use Rattle.folds.specs.Lists.{filled}
+use Rattle.folds.proofs.Writing.{Writing, writing-done}
 use Rattle.columns.specs.declared.Refusal.{Refusal}
 use Rattle.columns.specs.declared.Refusal.the-variants.{TooLong, WrongLength, NotFinite}
 use Rattle.columns.specs.Refusals.{longest}

@@ -1,5 +1,5 @@
 -- The second pass: each entry of the two tables is the definition's sum, and the scatter of columns j and k, wherever it was kept, is that of
--- the definition, since products commute. Assumes nothing.
+-- the definition, since products commute.
 use mathlib.Core.Path.{_≡_, refl, ap, _∙_}
 use mathlib.Core.Logic.{_⊎_, inl, inr}
 use mathlib.Core.List.{List, []}
@@ -12,15 +12,16 @@ use lib.IntN.{ℤ}
 use lib.ListN.{getD, replicate}
 use lib.Ieee.{Float, nan, inf, fin, Format, binary64, up, down, unlike, add, sub, mul}
 use borrow.Author.Tests.{lt-ltb, le-ltb, ltb-true}
-use Rattle.folds.specs.Walks.{steps, across}
-use Rattle.folds.specs.Columns.{tabulated}
+use Rattle.folds.specs.Walks.{steps, forRange}
+use Rattle.folds.specs.Lists.{tabulated}
 use Rattle.folds.proofs.Tests.{lt-or-ge}
-use Rattle.gauss.specs.Elimination.{nought, Row, Table, row, entry}
+use Rattle.floats.specs.Constants.{f64Zero}
+use Rattle.gauss.specs.Elimination.{Vector, Matrix, row, entry}
 use Rattle.linear_discriminant.specs.Rows.{feature}
 use Rattle.linear_discriminant.specs.Fit.{inClass, addTaken, summed, product}
 use Rattle.linear_discriminant.specs.Passes.{centredAt, centredRow, addProductOf, width, columnOf, tableOf, halfOf, placeOf, scatterOf}
-use Rattle.folds.proofs.Walks.{across-same, across-join}
-use Rattle.folds.proofs.Columns.{tabulated-same, tabulated-at}
+use Rattle.folds.proofs.Walks.{for-range-same, for-range-join}
+use Rattle.folds.proofs.Writing.{tabulated-same, tabulated-at}
 use Rattle.linear_discriminant.proofs.Halves.{width-most, other-has, column-at}
 use Rattle.linear_discriminant.proofs.Piles.{kept-added}
 use Rattle.linear_discriminant.proofs.Slots.{Adds}
@@ -50,7 +51,7 @@ pub product-comm : (takes : ℕ → Bool) (features : List Float) (mu : ℕ → 
     → summed takes (product features mu j k) n ≡ summed takes (product features mu k j) n
 unfolding summed
 product-comm takes features mu j k n =
-    across-same 0 n nought
+    for-range-same 0 n f64Zero
     (λ i l u s. ap (λ (x : Float). cond (takes i) (add binary64 s x) s) (float-mul-comm binary64 (sub binary64 (feature features i j) (mu j)) (sub binary64 (feature features i k) (mu k))))
 
 -- ---- the tables
@@ -59,11 +60,11 @@ module _ (features : List Float) (labels : List ℤ) (mean : List Float) (c : �
   abbrev mu : ℕ → Float
   mu j = getD mean j nan
 
-  abbrev kept : ℕ → Row
+  abbrev kept : ℕ → Vector
   kept i = centredRow features i mean
 
   -- before the first row
-  pub empty : replicate 20 (replicate 12 nought) ≡ tableOf (halfOf features labels mean c 0)
+  pub empty : replicate 20 (replicate 12 f64Zero) ≡ tableOf (halfOf features labels mean c 0)
   unfolding tabulated summed steps
   empty = refl
 
@@ -98,15 +99,15 @@ module _ (features : List Float) (labels : List ℤ) (mean : List Float) (c : �
       sums : ℕ → ℕ → ℕ → Float
       sums j d n = summed (inClass labels c) (product features mu j (columnOf j d)) n
 
-      run : (j d : ℕ) → j < 20 → d < width j → across (λ g. addProductOf j (2 * (j / 2) + d) (row rows g)) 0 m (sums j d a) ≡ sums j d b
+      run : (j d : ℕ) → j < 20 → d < width j → forRange (λ g. addProductOf j (2 * (j / 2) + d) (row rows g)) 0 m (sums j d a) ≡ sums j d b
       run j d l u =
           same (addProductOf j (2 * (j / 2) + d)) (sums j d a)
-          ∙ across-same a b (sums j d a) (λ i p q s. ap (λ (x : Float). cond (inClass labels c i) x s) (kept-product j d l (within-row j d l u) i s))
-          ∙ across-join (addTaken (inClass labels c) (product features mu j (columnOf j d))) 0 a b nought zero-le h
+          ∙ for-range-same a b (sums j d a) (λ i p q s. ap (λ (x : Float). cond (inClass labels c i) x s) (kept-product j d l (within-row j d l u) i s))
+          ∙ for-range-join (addTaken (inClass labels c) (product features mu j (columnOf j d))) 0 a b f64Zero zero-le h
 
       at : (j d : ℕ) → j < 20 → (t : Bool) → ltb d (width j) ≡ t
-          → cond t (across (λ g. addProductOf j (2 * (j / 2) + d) (row rows g)) 0 m (cond t (sums j d a) nought)) (cond t (sums j d a) nought)
-          ≡ cond t (sums j d b) nought
+          → cond t (forRange (λ g. addProductOf j (2 * (j / 2) + d) (row rows g)) 0 m (cond t (sums j d a) f64Zero)) (cond t (sums j d a) f64Zero)
+          ≡ cond t (sums j d b) f64Zero
       at j d l true e = run j d l (ltb-true d (width j) e)
       at j d l false e = refl
 
@@ -116,14 +117,14 @@ module _ (features : List Float) (labels : List ℤ) (mean : List Float) (c : �
   unfolding scatterOf
   scatter-is n j k h l = go (lt-or-ge (placeOf j k) (width j))
     where
-      table : Table
+      table : Matrix
       table = tableOf (halfOf features labels mean c n)
 
       read : (j k : ℕ) → j < 20 → k < 20 → placeOf j k < width j → entry table j (placeOf j k) ≡ summed (inClass labels c) (product features mu j k) n
       read j k h l p =
           let m = width-most j in
           let z : placeOf j k < 12 = omega arith in
-          ap (λ (r : Row). getD r (placeOf j k) nan) (tabulated-at (λ j. tabulated (halfOf features labels mean c n j) 0 12) 20 j [] h)
+          ap (λ (r : Vector). getD r (placeOf j k) nan) (tabulated-at (λ j. tabulated (halfOf features labels mean c n j) 0 12) 20 j [] h)
           ∙ tabulated-at (halfOf features labels mean c n j) 12 (placeOf j k) nan z
           ∙ rw (lt-ltb (placeOf j k) (width j) p)
           (ap (λ (q : ℕ). summed (inClass labels c) (product features mu j q) n) (column-at j k h l p))

@@ -1,4 +1,4 @@
--- The first pass: the sums that the loop leaves are the definition's, class by class and column by column. Assumes nothing.
+-- The first pass: the sums that the loop leaves are the definition's, class by class and column by column.
 use mathlib.Core.Path.{_≡_, refl, sym, ap, _∙_}
 use mathlib.Core.List.{List, []}
 use mathlib.Core.Bool.{Bool, true, false, cond}
@@ -8,32 +8,33 @@ use lib.IntN.{ℤ, pos}
 use lib.ListN.{getD, replicate}
 use lib.Ieee.{Float, nan, binary64, add}
 use borrow.Author.Tests.{eq-eqb, ne-eqb}
-use Rattle.folds.specs.Walks.{steps, across}
-use Rattle.folds.specs.Columns.{tabulated}
-use Rattle.gauss.specs.Elimination.{nought, Table, row}
+use Rattle.folds.specs.Walks.{steps, forRange}
+use Rattle.folds.specs.Lists.{tabulated}
+use Rattle.floats.specs.Constants.{f64Zero}
+use Rattle.gauss.specs.Elimination.{Matrix, row}
 use Rattle.linear_discriminant.specs.Rows.{feature}
 use Rattle.linear_discriminant.specs.Fit.{classOf, inClass, addTaken, summed}
 use Rattle.linear_discriminant.specs.Passes.{addedRow, sumRow, summedRows}
-use Rattle.folds.proofs.Walks.{across-last, across-join}
-use Rattle.folds.proofs.Columns.{tabulated-same, tabulated-at, tabulated-set}
+use Rattle.folds.proofs.Walks.{for-range-last, for-range-join}
+use Rattle.folds.proofs.Writing.{tabulated-same, tabulated-at, tabulated-set}
 use Rattle.linear_discriminant.proofs.Classes.{class-small}
 
 module _ (features : List Float) (labels : List ℤ) where
-  pub sums-join : (from half to : ℕ) (s : Table) {s₁ s₂ : Table} → from ≤ half → half ≤ to → s₁ ≡ summedRows features labels from half s
+  pub sums-join : (from half to : ℕ) (s : Matrix) {s₁ s₂ : Matrix} → from ≤ half → half ≤ to → s₁ ≡ summedRows features labels from half s
       → s₂ ≡ summedRows features labels half to s₁ → s₂ ≡ summedRows features labels from to s
   unfolding summedRows
-  sums-join from half to s h l e f = f ∙ ap (across (sumRow features labels) half to) e ∙ across-join (sumRow features labels) from half to s h l
+  sums-join from half to s h l e f = f ∙ ap (forRange (sumRow features labels) half to) e ∙ for-range-join (sumRow features labels) from half to s h l
 
   -- the sum of column j over the rows of class c
   abbrev pub classSum : ℕ → ℕ → ℕ → Float
   classSum c n j = summed (inClass labels c) (λ i. feature features i j) n
 
-  abbrev pub classSums : ℕ → Table
+  abbrev pub classSums : ℕ → Matrix
   classSums n = tabulated (λ c. tabulated (classSum c n) 0 20) 0 2
 
   next : (c n j : ℕ) → classSum c (n + 1) j ≡ addTaken (inClass labels c) (λ i. feature features i j) n (classSum c n j)
   unfolding summed
-  next c n j = across-last (addTaken (inClass labels c) (λ i. feature features i j)) 0 n nought zero-le
+  next c n j = for-range-last (addTaken (inClass labels c) (λ i. feature features i j)) 0 n f64Zero zero-le
 
   -- one row more
   turn : (n : ℕ) → sumRow features labels n (classSums n) ≡ classSums (n + 1)
@@ -58,12 +59,12 @@ module _ (features : List Float) (labels : List ℤ) where
       others : (c : ℕ) → c < 2 → (c ≡ own → ⊥) → tabulated (classSum c (n + 1)) 0 20 ≡ tabulated (classSum c n) 0 20
       others c h p = tabulated-same 20 (λ j h. taken c j false (ne-eqb own c (λ e. p (sym e))))
 
-  pub sums-are : (n : ℕ) → summedRows features labels 0 n (replicate 2 (replicate 20 nought)) ≡ classSums n
+  pub sums-are : (n : ℕ) → summedRows features labels 0 n (replicate 2 (replicate 20 f64Zero)) ≡ classSums n
   unfolding summedRows summed steps tabulated
   sums-are zero = refl
   sums-are (suc n) =
-      ap (λ (m : ℕ). across (sumRow features labels) 0 m (replicate 2 (replicate 20 nought))) (sym (add-one n))
-      ∙ across-last (sumRow features labels) 0 n (replicate 2 (replicate 20 nought)) zero-le
+      ap (λ (m : ℕ). forRange (sumRow features labels) 0 m (replicate 2 (replicate 20 f64Zero))) (sym (add-one n))
+      ∙ for-range-last (sumRow features labels) 0 n (replicate 2 (replicate 20 f64Zero)) zero-le
       ∙ ap (sumRow features labels n) (sums-are n)
       ∙ turn n
       ∙ ap classSums (add-one n)

@@ -4,7 +4,7 @@ use Prim.Native.Nat.{ℕ}
 use mathlib.Core.List.{List}
 use lib.ListN.{set}
 use lib.Ieee.{Float}
-use Rattle.folds.specs.Walks.{across}
+use Rattle.folds.specs.Walks.{forRange}
 
 -- column[i] = f i
 abbrev pub write : (ℕ → Float) → ℕ → List Float → List Float
@@ -12,4 +12,4 @@ write f i column = set column i (f i)
 
 -- the places from a to b − 1 hold f's values
 unfoldable pub written : (ℕ → Float) → ℕ → ℕ → List Float → List Float
-written f a b column = across (write f) a b column
+written f a b column = forRange (write f) a b column

@@ -7,8 +7,8 @@ use lib.Dec.{leb, eqb}
 use lib.IntN.{ℤ, pos}
 use lib.ListN.{length, getD, replicate}
 use lib.Ieee.{Float, nan, binary64, add, sub, mul, div, ofInt}
-use Rattle.folds.specs.Walks.{across}
-use Rattle.folds.specs.Columns.{tabulated}
+use Rattle.folds.specs.Walks.{forRange}
+use Rattle.folds.specs.Lists.{tabulated}
 use Rattle.columns.specs.declared.Refusal.{Refusal}
 use Rattle.columns.specs.declared.Refusal.the-variants.{TooLong, WrongLength, OneClass}
 use Rattle.columns.specs.Refusals.{longest, numberOf}
@@ -20,7 +20,7 @@ use Rattle.gauss.specs.Solutions.{solution}
 use Rattle.linear_discriminant.specs.declared.Trained.{Trained}
 use Rattle.linear_discriminant.specs.declared.Trained.the-variants.{Coefficients, Refused}
 use Rattle.linear_discriminant.specs.declared.Model.{Model}
-use Rattle.gauss.specs.Elimination.{nought}
+use Rattle.floats.specs.Constants.{f64Zero}
 use Rattle.linear_discriminant.specs.Rows.{feature}
 
 -- ---- classes: "Index 0 = decoy, 1 = target"
@@ -46,7 +46,7 @@ addTaken takes x i sum = cond (takes i) (add binary64 sum (x i)) sum
 
 -- "Sums run in row order", and "start at +0.0": x of those of the rows 0, …, n − 1 that are taken
 unfoldable pub summed : (ℕ → Bool) → (ℕ → Float) → ℕ → Float
-summed takes x n = across (addTaken takes x) 0 n nought
+summed takes x n = forRange (addTaken takes x) 0 n f64Zero
 
 -- class_mean[c][j] = class_sum[c][j] / class_count[c]
 unfoldable pub mean : List Float → List ℤ → ℕ → ℕ → Float
@@ -65,7 +65,7 @@ scatter features labels c j k = summed (inClass labels c) (product features (mea
 unfoldable pub within : List Float → List ℤ → ℕ → ℕ → Float
 within features labels j k =
     add binary64
-    (add binary64 nought (div binary64 (scatter features labels 0 j k) (asFloat (decoys labels))))
+    (add binary64 f64Zero (div binary64 (scatter features labels 0 j k) (asFloat (decoys labels))))
     (div binary64 (scatter features labels 1 j k) (asFloat (targets labels)))
 
 -- mu_diff: target minus decoy

@@ -4,8 +4,8 @@ use Prim.Native.Nat.{ℕ, _+_, _*_}
 use mathlib.Core.List.{List}
 use lib.ListN.{getD}
 use lib.Ieee.{Float, nan, binary64, add, mul}
-use Rattle.folds.specs.Walks.{across}
-use Rattle.gauss.specs.Elimination.{nought}
+use Rattle.folds.specs.Walks.{forRange}
+use Rattle.floats.specs.Constants.{f64Zero}
 
 -- number j of row i of a feature column
 abbrev pub feature : List Float → ℕ → ℕ → Float
@@ -17,4 +17,4 @@ addProduct coefficients x j sum = add binary64 sum (mul binary64 (getD coefficie
 
 -- score: the sum of w * x in order, from +0.0, over the row's twenty numbers
 unfoldable pub scored : List Float → (ℕ → Float) → Float
-scored coefficients x = across (addProduct coefficients x) 0 20 nought
+scored coefficients x = forRange (addProduct coefficients x) 0 20 f64Zero

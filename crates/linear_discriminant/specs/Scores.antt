@@ -7,7 +7,7 @@ use lib.Dec.{leb, eqb}
 use lib.ListN.{length, getD}
 use lib.Ieee.{Float, nan, inf, fin, binary32}
 use Rattle.folds.specs.Walks.{every}
-use Rattle.folds.specs.Columns.{filled, tabulated}
+use Rattle.folds.specs.Lists.{filled, tabulated}
 use Rattle.columns.specs.declared.Refusal.{Refusal}
 use Rattle.columns.specs.declared.Refusal.the-variants.{TooLong, WrongLength, NotFinite}
 use Rattle.columns.specs.Refusals.{longest}

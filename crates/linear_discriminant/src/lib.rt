@@ -8,12 +8,12 @@ ghost use lib.ListN.{length, getD, replicate};
 ghost use lib.Ieee.{nan, binary32};
 ghost use Rattle.columns.specs.Refusals.{longest};
 ghost use Rattle.floats.specs.Convert.{converted};
-ghost use Rattle.gauss.specs.Elimination.{nought};
+ghost use Rattle.floats.specs.Constants.{f64Zero};
 ghost use Rattle.linear_discriminant.specs.Rows.{scored};
 ghost use Rattle.linear_discriminant.specs.Blocks.{written};
 ghost use Rattle.linear_discriminant.specs.Scores.{isFinite, allFinite, scoreAt, blankRun, ran, scoresRun, scoredRows};
 ghost use Rattle.linear_discriminant.specs.Fit.{classOf, blankModel, modelOf, trainedNumber, fitted, trained};
-ghost use Rattle.linear_discriminant.specs.Passes.{addedRow, summedRows, meanOf, centredRow, pairAdded, keptAdded, halves, width, placeOf, scatterOf, withinRow, withinTable, lessRow, fittedWith};
+ghost use Rattle.linear_discriminant.specs.Passes.{addedRow, summedRows, meanOf, centredRow, pairAdded, keptAdded, halves, width, placeOf, scatterOf, withinRow, withinTable, rowDifference, fittedWith};
 use columns::Outcome;
 use columns::Refusal;
 use gauss::Solution;
@@ -95,7 +95,7 @@ fn sum_rows(features: &[f64], labels: &[i32], sums: &mut [[f64; 20]; 2], from: u
 // between the classes number by number.
 fn class_sums(features: &[f64], labels: &[i32]) -> [[f64; 20]; 2]
     requires { ⌜ length (now features) ≡ 20 * length (now labels) ⌝ }
-    ensures { λ r. ⌜ r ≡ summedRows (now (features .entry)) (now (labels .entry)) 0 (length (now (labels .entry))) (replicate 2 (replicate 20 nought)) ⌝ }
+    ensures { λ r. ⌜ r ≡ summedRows (now (features .entry)) (now (labels .entry)) 0 (length (now (labels .entry))) (replicate 2 (replicate 20 f64Zero)) ⌝ }
 {
     let mut sums = [[0.0; 20]; 2];
     let half = labels.len() / 2;
@@ -252,9 +252,9 @@ fn within(tables: &[[[f64; 12]; 20]; 2], d: f64, t: f64) -> [[f64; 20]; 20]
     left
 }
 
-// a less b: the difference of two rows of means.
-fn less(a: &[f64; 20], b: &[f64; 20]) -> [f64; 20]
-    ensures { λ r. ⌜ r ≡ lessRow (now (a .entry)) (now (b .entry)) ⌝ }
+// The difference of two rows of means, a − b.
+fn subtract_rows(a: &[f64; 20], b: &[f64; 20]) -> [f64; 20]
+    ensures { λ r. ⌜ r ≡ rowDifference (now (a .entry)) (now (b .entry)) ⌝ }
 {
     let mut row = [0.0; 20];
     for j in 0..20 {
@@ -292,7 +292,7 @@ fn fit_classes(features: &[f64], labels: &[i32], decoys: usize, targets: usize) 
     let means = [decoy, target];
     let tables = class_scatters(features, labels, &means);
     let left = within(&tables, decoys as f64, targets as f64);
-    let right = less(&target, &decoy);
+    let right = subtract_rows(&target, &decoy);
     model_of(gauss::solve(left, right, 20))
 }
 

@@ -1,4 +1,4 @@
--- The test for a decoy, as the machine makes it on 32 bits. Assumes nothing.
+-- The test for a decoy, as the machine makes it on 32 bits.
 use mathlib.Core.Path.{_≡_, ap, _∙_}
 use mathlib.Core.Bool.{cond}
 use lib.Dec.{eqb}

@@ -1,5 +1,5 @@
 -- What the ranked keys say, joined with the definitions: each key gives its row's place and whether it is a decoy, so that the pass over the keys
--- counts the labels as ranked and writes at the rows' places. Assumes nothing.
+-- counts the labels as ranked and writes at the rows' places.
 use mathlib.Core.Path.{_≡_, refl, sym, ap, ap₂, _∙_, subst}
 use mathlib.Core.List.{List, [], _∷_, map}
 use mathlib.Core.Bool.{Bool, true, false, cond, _&&_}
@@ -12,8 +12,8 @@ use lib.IntN.{ℤ, pos, negsuc}
 use lib.ListN.{length, getD, length-map}
 use lib.Ieee.{Float, nan, binary32}
 use Rattle.folds.proofs.Tests.{both}
-use Rattle.folds.specs.Columns.{filled, tabulated, All}
-use Rattle.folds.proofs.Columns.{length-tabulated, tabulated-same, same-blank, tabulated-at, all-map, all-mapped, all-at}
+use Rattle.folds.specs.Lists.{filled, tabulated, All}
+use Rattle.folds.proofs.Writing.{length-tabulated, tabulated-same, same-blank, tabulated-at, all-map, all-mapped, all-at}
 use Rattle.floats.specs.Convert.{converted}
 use Rattle.floats.specs.Ratio.{oneIn}
 use Rattle.floats.specs.TotalOrder.{orderKey}

@@ -1,5 +1,5 @@
 -- The places of ranked rows: each place of the list has a row, and each row a place of the list. A column written at the rows' places, the first
--- rows last, holds at a place what belongs to its row. Assumes nothing.
+-- rows last, holds at a place what belongs to its row.
 use mathlib.Core.Path.{_≡_, refl, sym, ap, _∙_, subst}
 use mathlib.Core.Logic.{inl, inr}
 use mathlib.Core.List.{List, [], _∷_}
@@ -12,8 +12,8 @@ use lib.Dec.{eqb}
 use lib.ListN.{length, getD, set, length-set}
 use lib.Seq.{getD-set-same, getD-set-other, ext-getD}
 use lib.Ieee.{Float}
-use Rattle.folds.specs.Columns.{tabulated}
-use Rattle.folds.proofs.Columns.{length-tabulated, getD-tabulated}
+use Rattle.folds.specs.Lists.{tabulated}
+use Rattle.folds.proofs.Writing.{length-tabulated, getD-tabulated}
 use Rattle.floats.specs.TotalOrder.{before}
 use Rattle.ranking.specs.Ranking.{Row, inserted, rankedFrom, ranked}
 use Rattle.precursor.specs.Precursors.{rankOf}

@@ -1,4 +1,4 @@
--- The pass that writes ranks, from the last key up: the keys from i on have theirs. Assumes nothing.
+-- The pass that writes ranks, from the last key up: the keys from i on have theirs.
 use mathlib.Core.Path.{_≡_, refl, sym, ap, ap₂, _∙_, subst}
 use mathlib.Core.List.{List}
 use Prim.Native.Nat.{ℕ, suc, _+_, _≤_, _<_}
@@ -7,8 +7,8 @@ use native.Mathlib.Numerals.{add-one}
 use native.Mathlib.Omega.{arith}
 use lib.ListN.{length, getD, drop, set, length-set}
 use lib.Seq.{drop-cons, drop-length}
-use Rattle.folds.specs.Columns.{tabulated}
-use Rattle.folds.proofs.Columns.{length-tabulated, getD-tabulated}
+use Rattle.folds.specs.Lists.{tabulated}
+use Rattle.folds.proofs.Writing.{length-tabulated, getD-tabulated}
 use Rattle.precursor.specs.Packed.{placeOf, scattered}
 
 pub record Ranking (keys ranks₀ : List ℕ) (i : ℕ) (ranks : List ℕ) : Type 0 where

@@ -1,5 +1,5 @@
 -- The pass from the last row up: what its counters, its minimum, its count and its column hold when the rows from i on are done.
--- Counts up to row i are taken down one row a turn, and the ratio at a row is theirs. Assumes nothing.
+-- Counts up to row i are taken down one row a turn, and the ratio at a row is theirs.
 use mathlib.Core.Path.{_≡_, refl, sym, ap, ap₂, _∙_, subst}
 use mathlib.Core.List.{List, []}
 use mathlib.Core.Bool.{cond, _&&_}
@@ -14,12 +14,12 @@ use lib.Seq.{drop-cons, take-length, take-all, drop-length}
 use lib.Ieee.{Float, nan, binary32, le, ofBits}
 use mir.Val.{boolByte}
 use Rattle.folds.proofs.Tests.{byte-most}
-use Rattle.floats.specs.Least.{lesser}
+use Rattle.floats.specs.MinMax.{minNumber}
 use Rattle.floats.specs.Ratio.{oneIn}
 use Rattle.counting.specs.Labels.{isDecoy, decoys, targets, bitLabel}
-use Rattle.counting.specs.QValues.{ratio, ratioAt, ratios, lowest, qValues, targetsAtMost}
+use Rattle.counting.specs.QValues.{ratio, ratioAt, ratios, minimum, qValues, targetsAtMost}
 use Rattle.counting.proofs.Labels.{decoys-next, targets-next, row-counts, bit-decoy, bit-target, pass-one}
-use Rattle.counting.proofs.Lowest.{lows-at}
+use Rattle.counting.proofs.RunningMinimum.{running-minimum-at}
 use Rattle.counting.proofs.QValues.{length-ratios, ratios-at, q-length}
 use Rattle.precursor.specs.Packed.{placeOf, labelsOf, scattered}
 
@@ -85,13 +85,13 @@ pub record Assigned (keys : List ℕ) (q₀ : List Float) (i decoy target : ℕ)
   pub counts : decoy + target ≡ i + 1
   pub decoys-are : decoy ≡ decoys (take i (labelsOf keys)) + 1
   pub targets-are : target ≡ targets (take i (labelsOf keys))
-  pub least-is : least ≡ lowest (drop i (ratios (labelsOf keys)))
+  pub least-is : least ≡ minimum (drop i (ratios (labelsOf keys)))
   pub count-is : passing ≡ targetsAtMost (oneIn 20) (drop i (labelsOf keys)) (drop i (qValues (labelsOf keys)))
   pub column-is : q ≡ scattered (drop i keys) (drop i (qValues (labelsOf keys))) q₀
 
 pub assigned-start : (keys : List ℕ) (q₀ : List Float) (decoy : ℕ) → decoy ≡ decoys (labelsOf keys)
     → Assigned keys q₀ (length keys) (decoy + 1) (length keys + 1 - (decoy + 1)) (ofBits binary32 1065353216) 0 q₀
-unfolding lowest targetsAtMost scattered
+unfolding minimum targetsAtMost scattered
 assigned-start keys q₀ decoy e =
     let U = labelsOf keys in
     let n = length keys in
@@ -106,7 +106,7 @@ assigned-start keys q₀ decoy e =
       counts = omega arith;
       decoys-are = ap (λ (m : ℕ). m + 1) (e ∙ ap decoys (sym whole));
       targets-are = counts n decoy (decoys U) (targets U) e both ∙ ap targets (sym whole);
-      least-is = ap lowest (sym no-ratio);
+      least-is = ap minimum (sym no-ratio);
       count-is = ap (λ (ls : List ℤ). targetsAtMost (oneIn 20) ls (drop n (qValues U))) (sym no-label);
       column-is = ap (λ (ks : List ℕ). scattered ks (drop n (qValues U)) q₀) (sym (drop-length keys));
     }
@@ -125,21 +125,21 @@ module _ (keys : List ℕ) (j : ℕ) (h : j < length keys) where
   in-q = subst (λ (n : ℕ). j < n) (sym (q-length (labelsOf keys))) in-labels
 
   -- the minimum from row j on, by the minimum below it and the ratio there
-  next-least : lowest (drop j (ratios (labelsOf keys)))
-      ≡ lesser (lowest (drop (suc j) (ratios (labelsOf keys)))) (ratio (decoys (take (j + 1) (labelsOf keys)) + 1) (targets (take (j + 1) (labelsOf keys))))
-  unfolding lowest ratioAt
+  next-least : minimum (drop j (ratios (labelsOf keys)))
+      ≡ minNumber (minimum (drop (suc j) (ratios (labelsOf keys)))) (ratio (decoys (take (j + 1) (labelsOf keys)) + 1) (targets (take (j + 1) (labelsOf keys))))
+  unfolding minimum ratioAt
   next-least =
       let R = ratios (labelsOf keys) in
-      ap lowest (drop-cons R j nan in-ratios)
-      ∙ ap (lesser (lowest (drop (suc j) R))) (ratios-at (labelsOf keys) j nan in-labels)
+      ap minimum (drop-cons R j nan in-ratios)
+      ∙ ap (minNumber (minimum (drop (suc j) R))) (ratios-at (labelsOf keys) j nan in-labels)
 
-  q-here : getD (qValues (labelsOf keys)) j nan ≡ lowest (drop j (ratios (labelsOf keys)))
+  q-here : getD (qValues (labelsOf keys)) j nan ≡ minimum (drop j (ratios (labelsOf keys)))
   unfolding qValues
-  q-here = lows-at (ratios (labelsOf keys)) j nan in-ratios
+  q-here = running-minimum-at (ratios (labelsOf keys)) j nan in-ratios
 
   next-count : targetsAtMost (oneIn 20) (drop j (labelsOf keys)) (drop j (qValues (labelsOf keys)))
       ≡ (let rest = targetsAtMost (oneIn 20) (drop (suc j) (labelsOf keys)) (drop (suc j) (qValues (labelsOf keys))) in
-      cond (isDecoy (bitLabel (getD keys j 0))) rest (cond (le (lowest (drop j (ratios (labelsOf keys)))) (oneIn 20)) (suc rest) rest))
+      cond (isDecoy (bitLabel (getD keys j 0))) rest (cond (le (minimum (drop j (ratios (labelsOf keys)))) (oneIn 20)) (suc rest) rest))
   unfolding targetsAtMost
   next-count =
       let U = labelsOf keys in
@@ -149,7 +149,7 @@ module _ (keys : List ℕ) (j : ℕ) (h : j < length keys) where
       ∙ ap₂ (λ (l : ℤ) (q : Float). cond (isDecoy l) rest (cond (le q (oneIn 20)) (suc rest) rest)) (labels-at keys j) q-here
 
   next-column : (q₀ : List Float) → scattered (drop j keys) (drop j (qValues (labelsOf keys))) q₀
-      ≡ set (scattered (drop (suc j) keys) (drop (suc j) (qValues (labelsOf keys))) q₀) (placeOf (getD keys j 0)) (lowest (drop j (ratios (labelsOf keys))))
+      ≡ set (scattered (drop (suc j) keys) (drop (suc j) (qValues (labelsOf keys))) q₀) (placeOf (getD keys j 0)) (minimum (drop j (ratios (labelsOf keys))))
   unfolding scattered
   next-column q₀ =
       let Q = qValues (labelsOf keys) in
@@ -158,7 +158,7 @@ module _ (keys : List ℕ) (j : ℕ) (h : j < length keys) where
 
 -- one turn, at row j: the ratio there joins the minimum, which goes to the row's place
 pub assigned-step : (keys : List ℕ) (q₀ : List Float) {i decoy target : ℕ} {least : Float} {passing : ℕ} {q : List Float} (j : ℕ)
-    → Assigned keys q₀ i decoy target least passing q → i ≡ j + 1 → (m c : Float) → m ≡ lesser least (ratio decoy target) → c ≡ oneIn 20
+    → Assigned keys q₀ i decoy target least passing q → i ≡ j + 1 → (m c : Float) → m ≡ minNumber least (ratio decoy target) → c ≡ oneIn 20
     → Assigned keys q₀ j (decoy - getD keys j 0 % 2) (target - (1 - getD keys j 0 % 2)) m
     (passing + boolByte (le m c && eqb (getD keys j 0 % 2) 0)) (set q (placeOf (getD keys j 0)) m)
 assigned-step keys q₀ {i} {decoy} {target} {least} {passing} {q} j w e m c m-is c-is =
@@ -168,8 +168,8 @@ assigned-step keys q₀ {i} {decoy} {target} {least} {passing} {q} j w e m c m-i
     let i-is : i ≡ suc j = e ∙ add-one j in
     let d : decoy ≡ decoys (take (j + 1) U) + 1 = w .decoys-are ∙ ap (λ (n : ℕ). decoys (take n U) + 1) e in
     let t : target ≡ targets (take (j + 1) U) = w .targets-are ∙ ap (λ (n : ℕ). targets (take n U)) e in
-    let low : m ≡ lowest (drop j (ratios U)) =
-    m-is ∙ ap₂ lesser (w .least-is ∙ ap (λ (n : ℕ). lowest (drop n (ratios U))) i-is) (ap₂ ratio d t) ∙ sym (next-least keys j h) in
+    let low : m ≡ minimum (drop j (ratios U)) =
+    m-is ∙ ap₂ minNumber (w .least-is ∙ ap (λ (n : ℕ). minimum (drop n (ratios U))) i-is) (ap₂ ratio d t) ∙ sym (next-least keys j h) in
     let rest : passing ≡ targetsAtMost (oneIn 20) (drop (suc j) U) (drop (suc j) (qValues U)) =
     w .count-is ∙ ap (λ (n : ℕ). targetsAtMost (oneIn 20) (drop n U) (drop n (qValues U))) i-is in
     record {

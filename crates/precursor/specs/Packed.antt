@@ -5,7 +5,7 @@ use Prim.Native.Nat.{ℕ, _+_, _*_, _/_, _%_}
 use lib.IntN.{ℤ, pos}
 use lib.ListN.{length, getD, set}
 use lib.Ieee.{Float, nan, binary32}
-use Rattle.folds.specs.Columns.{tabulated}
+use Rattle.folds.specs.Lists.{tabulated}
 use Rattle.floats.specs.Convert.{converted}
 use Rattle.counting.specs.Labels.{isDecoy, bitLabel}
 use Rattle.ranking.specs.Keys.{packed}

@@ -4,7 +4,7 @@ ghost use mathlib.Core.Bool.{cond, _&&_};
 ghost use Prim.Native.Nat.{ℕ, suc, _≤_, _<_};
 ghost use lib.Dec.{leb, eqb};
 ghost use lib.ListN.{length, getD};
-ghost use Rattle.folds.specs.Columns.{filled, tabulated};
+ghost use Rattle.folds.specs.Lists.{filled, tabulated};
 ghost use Rattle.columns.specs.Refusals.{longest};
 ghost use Rattle.floats.specs.Ratio.{oneIn};
 ghost use Rattle.counting.specs.Labels.{isDecoy, decoys};

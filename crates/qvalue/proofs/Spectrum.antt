@@ -1,5 +1,4 @@
 -- The spectrum call's answer and column, one law for each way that the call can go: too long, of the wrong length, and accepted.
--- Assumes nothing.
 use mathlib.Core.Path.{_≡_}
 use mathlib.Core.List.{List}
 use Prim.Native.Nat.{ℕ, _≤_, _<_}
@@ -7,13 +6,13 @@ use borrow.Author.Tests.{le-leb, lt-leb, eq-eqb, ne-eqb}
 use lib.IntN.{ℤ}
 use lib.ListN.{length}
 use lib.Ieee.{Float, nan}
-use Rattle.folds.specs.Columns.{filled}
+use Rattle.folds.specs.Lists.{filled}
 use Rattle.columns.specs.Refusals.{longest}
 use Rattle.columns.specs.declared.Counted.{Counted}
 use Rattle.columns.specs.declared.Counted.the-variants.{Passing, Refused}
 use Rattle.columns.specs.declared.Refusal.the-variants.{TooLong, WrongLength}
 use Rattle.floats.specs.Ratio.{oneIn}
-use Rattle.counting.specs.QValues.{ratios, lows, qValues, atMost}
+use Rattle.counting.specs.QValues.{ratios, runningMinimum, qValues, atMost}
 use Rattle.qvalue.specs.Spectrum.{spectrumAnswer, spectrumColumn}
 
 -- what the call says and leaves
@@ -38,7 +37,7 @@ module _ (labels : List ℤ) (column : List Float) {after : List Float} where
       (rw (t, u) (w .0), rw (t, u) (w .1))
 
   pub accepted : {rs : List Float} {n : ℕ} → length labels ≤ longest → length column ≡ length labels → rs ≡ ratios labels
-      → (n ≡ atMost (oneIn 100) (lows rs)) × (after ≡ lows rs) → Answered labels column (Passing n) after
+      → (n ≡ atMost (oneIn 100) (runningMinimum rs)) × (after ≡ runningMinimum rs) → Answered labels column (Passing n) after
   unfolding spectrumAnswer spectrumColumn qValues
   accepted h e r w =
       let t = le-leb (length labels) longest h in

@@ -6,11 +6,11 @@ ghost use mathlib.Core.Bool.{not};
 ghost use lib.Dec.{T};
 ghost use lib.ListN.{length};
 ghost use lib.Ieee.{binary32, ofBits, isNan, div};
-ghost use Rattle.folds.specs.Columns.{filled};
-ghost use Rattle.floats.specs.Least.{lesser};
+ghost use Rattle.folds.specs.Lists.{filled};
+ghost use Rattle.floats.specs.MinMax.{minNumber};
 ghost use Rattle.columns.specs.Refusals.{longest};
 ghost use Rattle.floats.specs.Ratio.{oneIn};
-ghost use Rattle.counting.specs.QValues.{ratios, lows, atMost};
+ghost use Rattle.counting.specs.QValues.{ratios, runningMinimum, atMost};
 ghost use Rattle.qvalue.specs.Spectrum.{spectrumAnswer, spectrumColumn};
 use columns::Counted;
 use columns::Refusal;
@@ -36,15 +36,15 @@ fn write_ratios(labels: &[i32], q: &mut [f32])
 // The lesser of two numbers of which the first is no NaN: one comparison, and no branch once compiled.
 fn lower(low: f32, next: f32) -> f32
     requires { ⌜ T (not (isNan low)) ⌝ }
-    ensures { λ r. ⌜ r ≡ lesser low next ⌝ }
+    ensures { λ r. ⌜ r ≡ minNumber low next ⌝ }
 {
     if next < low { next } else { low }
 }
 
 // The running minimum from the bottom, and how many are at most 0.01.
 fn take_minima(q: &mut [f32]) -> usize
-    ensures count { λ r. ⌜ r ≡ atMost (oneIn 100) (lows (now (q .entry))) ⌝ }
-    ensures column { λ _. ⌜ now (q .exit) ≡ lows (now (q .entry)) ⌝ }
+    ensures count { λ r. ⌜ r ≡ atMost (oneIn 100) (runningMinimum (now (q .entry))) ⌝ }
+    ensures column { λ _. ⌜ now (q .exit) ≡ runningMinimum (now (q .entry)) ⌝ }
 {
     let mut q_min: f32 = 1.0;
     let mut passing = 0;

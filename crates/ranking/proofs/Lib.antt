@@ -1,5 +1,5 @@
 pub mod Sorting
-pub mod Columns
+pub mod Parts
 pub mod Merging
 pub mod Joining
 pub mod Halving

@@ -1,4 +1,4 @@
--- An answer's number goes through the machine's 32 bits and comes back; and the bare ranking's answers by its two questions. Assumes nothing.
+-- An answer's number goes through the machine's 32 bits and comes back; and the bare ranking's answers by its two questions.
 use mathlib.Core.Path.{_≡_, refl, sym, ap, ap₂, _∙_}
 use mathlib.Core.List.{List}
 use mathlib.Core.Bool.{Bool, true, false, cond}
@@ -6,7 +6,7 @@ use Prim.Native.Nat.{ℕ, _≤_, _<_}
 use borrow.Author.Tests.{le-leb, lt-leb, eq-eqb, ne-eqb}
 use lib.Dec.{leb, eqb}
 use lib.ListN.{length}
-use Rattle.folds.specs.Columns.{filled}
+use Rattle.folds.specs.Lists.{filled}
 use Rattle.columns.specs.Refusals.{longest}
 use Rattle.ranking.specs.Keys.{sorted}
 use lib.IntN.{ℤ}

@@ -5,7 +5,7 @@ use Prim.Native.Nat.{ℕ}
 use lib.Dec.{leb, eqb}
 use lib.IntN.{ℤ, pos, negsuc}
 use lib.ListN.{length}
-use Rattle.folds.specs.Columns.{filled}
+use Rattle.folds.specs.Lists.{filled}
 use Rattle.columns.specs.Refusals.{longest, numberOf}
 use Rattle.columns.specs.declared.Refusal.the-variants.{TooLong, WrongLength}
 use Rattle.line_check.specs.declared.Line.{Line}

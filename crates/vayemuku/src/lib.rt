@@ -4,10 +4,10 @@ ghost use mathlib.Core.Path.{_≡_};
 ghost use lib.Ieee.{nan, binary32, binary64, toUnsigned};
 ghost use Rattle.floats.specs.Convert.{converted};
 ghost use Rattle.floats.specs.Whole.{floored, ceiled};
-ghost use Rattle.floats.specs.Least.{lesser, greater};
+ghost use Rattle.floats.specs.MinMax.{minNumber, maxNumber};
 ghost use Rattle.floats.specs.TotalOrder.{compared, orderKey};
 ghost use lib.ListN.{length, getD};
-ghost use Rattle.folds.specs.Columns.{filled};
+ghost use Rattle.folds.specs.Lists.{filled};
 ghost use Rattle.columns.specs.Refusals.{outcomeNumber, countedNumber, countedCount};
 ghost use Rattle.qvalue.specs.Spectrum.{spectrumAnswer, spectrumColumn};
 ghost use Rattle.gauss.specs.Solutions.{solution, solvedNumber};
@@ -133,14 +133,14 @@ pub extern "C" fn vayemuku_order_key_f32(x: f32) -> u32
 // Rust's a.min(b): a NaN is ignored, and of two zeros the first is kept.
 #[no_mangle]
 pub extern "C" fn vayemuku_min_f64(a: f64, b: f64) -> f64
-    ensures { λ r. ⌜ r ≡ lesser a b ⌝ }
+    ensures { λ r. ⌜ r ≡ minNumber a b ⌝ }
 {
     floats::min_f64(a, b)
 }
 
 #[no_mangle]
 pub extern "C" fn vayemuku_min_f32(a: f32, b: f32) -> f32
-    ensures { λ r. ⌜ r ≡ lesser a b ⌝ }
+    ensures { λ r. ⌜ r ≡ minNumber a b ⌝ }
 {
     floats::min_f32(a, b)
 }
@@ -148,14 +148,14 @@ pub extern "C" fn vayemuku_min_f32(a: f32, b: f32) -> f32
 // Rust's a.max(b), likewise.
 #[no_mangle]
 pub extern "C" fn vayemuku_max_f64(a: f64, b: f64) -> f64
-    ensures { λ r. ⌜ r ≡ greater a b ⌝ }
+    ensures { λ r. ⌜ r ≡ maxNumber a b ⌝ }
 {
     floats::max_f64(a, b)
 }
 
 #[no_mangle]
 pub extern "C" fn vayemuku_max_f32(a: f32, b: f32) -> f32
-    ensures { λ r. ⌜ r ≡ greater a b ⌝ }
+    ensures { λ r. ⌜ r ≡ maxNumber a b ⌝ }
 {
     floats::max_f32(a, b)
 }

@@ -1,4 +1,4 @@
--- `columns::blank` meets its contract: what `clear` and the fill ensure. Assumes nothing.
+-- `columns::blank` meets its contract: what `clear` and the fill ensure.
 use borrow.Author.Needs.{needs}
 use lib.Ieee.{div, ofBits}
 use Rattle.columns.proofs.blank.Statement.{statement}

@@ -1,4 +1,4 @@
--- `columns::clear` meets its contract: what the two fills ensure. Assumes nothing.
+-- `columns::clear` meets its contract: what the two fills ensure.
 use borrow.Author.Needs.{needs}
 use Rattle.columns.proofs.clear.Statement.{statement}
 use Rattle.columns.proofs.clear.Tie as tie

@@ -1,9 +1,9 @@
--- `columns::fill_f64` meets its contract: the column is written from the front with one value (`Writing`). Assumes nothing.
+-- `columns::fill_f64` meets its contract: the column is written from the front with one value (`Writing`).
 use mathlib.Core.Path.{refl}
 use Prim.Native.Nat.{_-_}
 use borrow.Author.Needs.{needs}
 use lib.ListN.{length}
-use Rattle.folds.proofs.Columns.{Writing, writing-start, writing-next, writing-filled}
+use Rattle.folds.proofs.Writing.{Writing, writing-start, writing-next, writing-filled}
 use Rattle.columns.proofs.fill_f64.Statement.{statement}
 use Rattle.columns.proofs.fill_f64.Tie as tie
 

@@ -1,4 +1,4 @@
--- `competition::add_all` meets its contract: a turn is a row's step on the table (`Adding`). Assumes nothing.
+-- `competition::add_all` meets its contract: a turn is a row's step on the table (`Adding`).
 use Prim.Native.Nat.{_-_}
 use borrow.Author.Needs.{needs}
 use lib.ListN.{length}

@@ -1,4 +1,4 @@
--- `competition::add_row` meets its contract: each way out is a law of proofs/Rows.antt. Assumes nothing.
+-- `competition::add_row` meets its contract: each way out is a law of proofs/Rows.antt.
 use borrow.Author.Needs.{needs}
 use Rattle.competition.specs.Tables.{tableOf}
 use Rattle.competition.proofs.Rows.{no-part-row, decoy-row, target-row}

@@ -1,4 +1,4 @@
--- `competition::add_rows` meets its contract: each way out is a law of proofs/Answers.antt, by the answers to the questions so far. Assumes nothing.
+-- `competition::add_rows` meets its contract: each way out is a law of proofs/Answers.antt, by the answers to the questions so far.
 use borrow.Author.Needs.{needs}
 use Rattle.competition.specs.Tables.{tableOf}
 use Rattle.competition.proofs.Answers.{add-rows-long, add-table-long, add-rows-unfit, add-table-unfit, add-no-slot, add-ready, add-done}

@@ -1,4 +1,4 @@
--- `competition::blank` meets its contract: what the two fills ensure. Assumes nothing.
+-- `competition::blank` meets its contract: what the two fills ensure.
 use borrow.Author.Needs.{needs}
 use lib.Ieee.{div, ofBits}
 use Rattle.competition.proofs.blank.Statement.{statement}

@@ -1,4 +1,4 @@
--- `competition::fresh_table` meets its contract: each way out is a law of proofs/Answers.antt. Assumes nothing.
+-- `competition::fresh_table` meets its contract: each way out is a law of proofs/Answers.antt.
 use borrow.Author.Needs.{needs}
 use Rattle.competition.specs.Tables.{tableOf}
 use Rattle.competition.proofs.Answers.{fresh-too-long, fresh-wrong-length, fresh-done}

@@ -1,4 +1,4 @@
--- `competition::slot_allowed` meets its contract: its tests are the definition's. Assumes nothing.
+-- `competition::slot_allowed` meets its contract: its tests are the definition's.
 use mathlib.Core.Path.{refl}
 use Rattle.competition.proofs.slot_allowed.Statement.{statement}
 use Rattle.competition.proofs.slot_allowed.Tie as tie

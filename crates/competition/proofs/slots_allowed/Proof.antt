@@ -1,4 +1,4 @@
--- `competition::slots_allowed` meets its contract: `all` answers for the slots passed (`Asking`). Assumes nothing.
+-- `competition::slots_allowed` meets its contract: `all` answers for the slots passed (`Asking`).
 use Prim.Native.Nat.{_-_}
 use borrow.Author.Needs.{needs}
 use lib.ListN.{length}

@@ -1,4 +1,4 @@
--- `competition::table_fits` meets its contract: its tests are the definition's. Assumes nothing.
+-- `competition::table_fits` meets its contract: its tests are the definition's.
 use mathlib.Core.Path.{refl}
 use Rattle.competition.proofs.table_fits.Statement.{statement}
 use Rattle.competition.proofs.table_fits.Tie as tie

@@ -1,4 +1,4 @@
--- `competition::winners` meets its contract: each way out is a law of proofs/Answers.antt, by the answers to the questions so far. Assumes nothing.
+-- `competition::winners` meets its contract: each way out is a law of proofs/Answers.antt, by the answers to the questions so far.
 use borrow.Author.Needs.{needs}
 use Rattle.competition.specs.Tables.{tableOf}
 use Rattle.competition.proofs.Answers.{winners-long, winners-table-unfit, winners-results-unfit, winners-ready, winners-done}

@@ -1,4 +1,4 @@
--- `competition::write_winners` meets its contract: a turn writes one slot's score and flag (`Slotwise`). Assumes nothing.
+-- `competition::write_winners` meets its contract: a turn writes one slot's score and flag (`Slotwise`).
 use Prim.Native.Nat.{_-_}
 use borrow.Author.Needs.{needs}
 use lib.ListN.{length}

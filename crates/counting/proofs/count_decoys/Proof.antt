@@ -1,4 +1,4 @@
--- `counting::count_decoys` meets its contract: the test of each label is added (`Decoys`). Assumes nothing.
+-- `counting::count_decoys` meets its contract: the test of each label is added (`Decoys`).
 use Prim.Native.Nat.{_-_}
 use lib.ListN.{length}
 use borrow.Author.Needs.{needs}

@@ -1,4 +1,4 @@
--- `fdr::ask` meets its contract: each way out is a law of proofs/Answers.antt. Assumes nothing.
+-- `fdr::ask` meets its contract: each way out is a law of proofs/Answers.antt.
 use Rattle.competition.specs.Tables.{tableOf}
 use Rattle.fdr.proofs.Answers.{few-slots, too-long, wrong-length, out-of-range, no-such-slot, accepted}
 use borrow.Author.Needs.{needs}

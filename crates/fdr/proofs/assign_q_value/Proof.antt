@@ -1,4 +1,4 @@
--- `fdr::assign_q_value` meets its contract: each way out is a law of proofs/Answers.antt, by what `ask` answers. Assumes nothing.
+-- `fdr::assign_q_value` meets its contract: each way out is a law of proofs/Answers.antt, by what `ask` answers.
 use lib.ListN.{length}
 use Rattle.competition.specs.Tables.{tableOf}
 use Rattle.fdr.proofs.Answers.{ready, refused, passes}

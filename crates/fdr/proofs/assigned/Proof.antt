@@ -1,4 +1,4 @@
--- `fdr::assigned` meets its contract: the laws of proofs/Joined.antt, filled with what the calls ensure. Assumes nothing.
+-- `fdr::assigned` meets its contract: the laws of proofs/Joined.antt, filled with what the calls ensure.
 use mathlib.Core.Path.{sym}
 use lib.ListN.{take}
 use lib.Seq.{length-take-le}

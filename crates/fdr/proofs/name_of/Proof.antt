@@ -1,4 +1,4 @@
--- `fdr::name_of` meets its contract: by the two cases of `Names`. Assumes nothing.
+-- `fdr::name_of` meets its contract: by the two cases of `Names`.
 use mathlib.Core.Path.{ap}
 use Prim.Native.Nat.{ℕ, _+_, _*_}
 use native.Mathlib.Omega.{arith}

@@ -1,4 +1,4 @@
--- `fdr::name_q_values` meets its contract: what is left of the rows is to be written over the column (`Naming`). Assumes nothing.
+-- `fdr::name_q_values` meets its contract: what is left of the rows is to be written over the column (`Naming`).
 use mathlib.Core.Path.{ap, _∙_}
 use Prim.Native.Nat.{_-_, _<_}
 use lib.ListN.{length}

@@ -1,4 +1,4 @@
--- `fdr::pack` meets its contract: the keys so far are those of the slots passed (`Packing`). Assumes nothing.
+-- `fdr::pack` meets its contract: the keys so far are those of the slots passed (`Packing`).
 use mathlib.Core.Path.{_∙_}
 use Prim.Native.Nat.{_-_}
 use native.Mathlib.Omega.{arith}
@@ -17,10 +17,10 @@ abbrev μ-loop : tie.MeasureT-loop
 
 loop-again : tie.Need-loop-again Inv-loop μ-loop
 loop-again c =
-    let one = c .before .before .before .before .before .before .before .put in
+    let f32One = c .before .before .before .before .before .before .before .put in
     let two = c .before .before .put2 in
     packing-step _ (c .before .before .before .before .before .before .before .before .before .before .before .before .before .before .before .loop .inv) (search needs)
-    _ _ _ (c .before .before .before .before .before .before .before .before .before .before .before .before .key .ensures) (one .ensures .0) (one .ensures .1) _ _ _ (c .before .before .before .before .before .before .before .before .before .before .key2 .ensures) (two .ensures .0) (two .ensures .1) (two .kept .0 ∙ one .kept .0)
+    _ _ _ (c .before .before .before .before .before .before .before .before .before .before .before .before .key .ensures) (f32One .ensures .0) (f32One .ensures .1) _ _ _ (c .before .before .before .before .before .before .before .before .before .before .key2 .ensures) (two .ensures .0) (two .ensures .1) (two .kept .0 ∙ f32One .kept .0)
 
 loop-holds : tie.Need-loop-holds Inv-loop μ-loop
 loop-holds c = packing-start _ _ (c .before .before .before .before .before .pre .keys-fit)

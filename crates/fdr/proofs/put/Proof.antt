@@ -1,4 +1,4 @@
--- `fdr::put` meets its contract: the law `put-keeps`. Assumes nothing.
+-- `fdr::put` meets its contract: the law `put-keeps`.
 use mathlib.Core.Bool.{not}
 use lib.Dec.{eqb}
 use native.Mathlib.Omega.{arith}

@@ -1,4 +1,4 @@
--- `fdr::rank` meets its contract: the laws of proofs/Joined.antt, filled with what the calls ensure. Assumes nothing.
+-- `fdr::rank` meets its contract: the laws of proofs/Joined.antt, filled with what the calls ensure.
 use mathlib.Core.List.{[]}
 use Rattle.competition.specs.Tables.{tableOf}
 use Rattle.fdr.proofs.Joined.{still-ratable, minima-asks, rank-done}

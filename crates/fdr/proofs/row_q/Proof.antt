@@ -1,4 +1,4 @@
--- `fdr::row_q` meets its contract: a row that takes part reads the place of its name. Assumes nothing.
+-- `fdr::row_q` meets its contract: a row that takes part reads the place of its name.
 use mathlib.Core.Path.{_≡_, sym, ap, _∙_, subst}
 use mathlib.Core.Bool.{Bool, false, not}
 use Prim.Native.Nat.{ℕ, _<_}
@@ -8,7 +8,7 @@ use lib.Dec.{T, eqb}
 use lib.ListN.{length, getD}
 use lib.Ieee.{binary32, ofBits}
 use lib.Ieee.Bits.{nanBits-is}
-use Rattle.folds.proofs.Columns.{all-at}
+use Rattle.folds.proofs.Writing.{all-at}
 use Rattle.counting.proofs.Tally.{label-test}
 use Rattle.fdr.specs.QValues.{nameOf}
 use Rattle.fdr.specs.Passes.{Bits}

@@ -1,4 +1,4 @@
--- `fdr::score_of` meets its contract: an odd number is a reverse side's. Assumes nothing.
+-- `fdr::score_of` meets its contract: an odd number is a reverse side's.
 use Prim.Native.Nat.{_%_}
 use borrow.Author.Tests.{eq-eqb, ne-eqb}
 use borrow.Author.Needs.{needs}

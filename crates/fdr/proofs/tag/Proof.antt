@@ -1,4 +1,4 @@
--- `fdr::tag` meets its contract: an f32 has 32 bits. Assumes nothing.
+-- `fdr::tag` meets its contract: an f32 has 32 bits.
 use Prim.Native.Nat.{_<_}
 use native.Mathlib.Omega.{arith}
 use denote.Floats.{passes}

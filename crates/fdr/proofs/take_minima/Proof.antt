@@ -1,4 +1,4 @@
--- `fdr::take_minima` meets its contract: the rows from i on have their least ratio (`Minima`). Assumes nothing.
+-- `fdr::take_minima` meets its contract: the rows from i on have their least ratio (`Minima`).
 use mathlib.Core.Path.{sym, subst}
 use mathlib.Core.Bool.{Bool, not, _&&_}
 use Prim.Native.Nat.{_-_, _%_}

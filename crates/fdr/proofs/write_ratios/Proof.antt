@@ -1,4 +1,4 @@
--- `fdr::write_ratios` meets its contract: the rows up to i have their ratios (`Summing`). Assumes nothing.
+-- `fdr::write_ratios` meets its contract: the rows up to i have their ratios (`Summing`).
 use mathlib.Core.Path.{sym, subst}
 use mathlib.Core.Bool.{not}
 use mathlib.Core.List.{[]}
@@ -7,7 +7,7 @@ use native.Mathlib.Omega.{arith}
 use lib.Dec.{T, le→leb}
 use lib.ListN.{length, getD}
 use lib.Ieee.{Float, inFloat, isNan}
-use Rattle.counting.specs.QValues.{one}
+use Rattle.floats.specs.Constants.{f32One}
 use Rattle.fdr.proofs.Keys.{one-number, least-number}
 use Rattle.competition.specs.Tables.{tableOf}
 use Rattle.fdr.proofs.Ratios.{Summing, summing-start, summing-within, summing-few, summing-step, summing-done}
@@ -50,7 +50,7 @@ int-to-float-min-f32 c =
     le→leb n (2 ^ 24) h
 
 tag-requires : tie.Need-tag-requires Inv-loop μ-loop
-tag-requires c κs = (subst (λ (x : Float). T (not (isNan x))) (sym (c .min-f32 .ensures)) (least-number one _ one-number), search needs)
+tag-requires c κs = (subst (λ (x : Float). T (not (isNan x))) (sym (c .min-f32 .ensures)) (least-number f32One _ one-number), search needs)
 
 returns : tie.Need-returns Inv-loop μ-loop
 returns c = summing-done _ _ _ _ (c .before .loop .inv) (search needs)

@@ -1,4 +1,4 @@
--- `fdr::write_rows` meets its contract: the column is written from the front (`Writing`). Assumes nothing.
+-- `fdr::write_rows` meets its contract: the column is written from the front (`Writing`).
 use mathlib.Core.Path.{_≡_, ap, _∙_}
 use mathlib.Core.Bool.{false}
 use Prim.Native.Nat.{_+_, _-_, _*_, _<_}
@@ -8,7 +8,7 @@ use lib.Dec.{eqb}
 use lib.IntN.{pos}
 use lib.ListN.{length, getD}
 use lib.Ieee.{nan}
-use Rattle.folds.proofs.Columns.{Writing, writing-start, writing-step, writing-done, all-at}
+use Rattle.folds.proofs.Writing.{Writing, writing-start, writing-step, writing-done, all-at}
 use Rattle.fdr.specs.Passes.{rowOf}
 use borrow.Author.Needs.{needs}
 use Rattle.fdr.proofs.write_rows.Statement.{statement}

@@ -1,5 +1,5 @@
 -- `floats::ceil_f64` is `ceiled`: the negative of the floor of the negative, by a law of Whole.
--- What is left of the body is `floor_f64`'s contract. Assumes nothing.
+-- What is left of the body is `floor_f64`'s contract.
 use mathlib.Core.Path.{_∙_, ap}
 use lib.Ieee.{binary64, neg}
 use borrow.Author.Needs.{needs}

@@ -1,5 +1,5 @@
 -- `floats::narrow` meets its contract: the bits below the sign are the magnitude's, what `nearest_f32` makes of it is the magnitude
--- converted, and the sign's bit on top makes that the argument converted. Assumes nothing.
+-- converted, and the sign's bit on top makes that the argument converted.
 use mathlib.Core.Path.{_≡_, sym, ap, _∙_, subst}
 use mathlib.Core.Bool.{Bool, not, cond, _&&_, true, false}
 use Prim.Native.Nat.{ℕ, _+_, _-_, _%_, _<_}
@@ -13,7 +13,7 @@ use Rattle.floats.specs.Convert.{converted}
 use Rattle.floats.specs.Signs.{negative, absolute}
 use lib.Ieee.Compare.{differs-from-itself}
 use denote.Floats.{passes}
-use Rattle.floats.proofs.Least.{not-nan}
+use Rattle.floats.proofs.MinMax.{not-nan}
 use Rattle.floats.proofs.Signs.{absolute-number, absolute-plus, converted-sign}
 use Rattle.floats.proofs.Fields.{sign-off, sign-part, sign-on, magnitude-bits}
 use Rattle.floats.proofs.Narrowed.{resigned, converted-fits, converted-not-nan}

@@ -1,10 +1,9 @@
 -- `floats::order_key_f64` meets its contract: the key is `key-nan`'s or `key-split`'s, and nothing wraps (`signed-fits`).
--- Assumes nothing.
 use borrow.Author.Needs.{needs}
 use mathlib.Core.Path.{sym}
 use lib.Dec.{T}
 use lib.Ieee.{binary64, fits}
-use Rattle.floats.proofs.Least.{not-nan}
+use Rattle.floats.proofs.MinMax.{not-nan}
 use denote.Floats.{passes}
 use Rattle.floats.proofs.TotalOrder.{key-nan, key-split, signed-fits, signed-below}
 use Rattle.floats.proofs.order_key_f64.Statement.{statement}

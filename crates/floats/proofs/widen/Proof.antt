@@ -1,4 +1,4 @@
--- `floats::widen` meets its contract: f64 holds every f32, so that rounding to it changes nothing. Assumes nothing.
+-- `floats::widen` meets its contract: f64 holds every f32, so that rounding to it changes nothing.
 use mathlib.Core.Path.{sym, _∙_}
 use borrow.Author.Needs.{needs}
 use denote.Floats.{passes}

@@ -1,7 +1,7 @@
--- `gauss::backfill` meets its contract. The rows are walked from the last up (`Fall`), each along its columns (`Along`) until the first nonzero
--- entry; the measures are the rows and the columns left. Assumes nothing.
+-- `gauss::backfill` meets its contract. The rows are walked from the last up (`WalkDown`), each along its columns (`Along`) until the first nonzero
+-- entry; the measures are the rows and the columns left.
 use Prim.Native.Nat.{_-_}
-use Rattle.folds.proofs.Walks.{Fall, fall-start, fall-done}
+use Rattle.folds.proofs.Walks.{WalkDown, walk-down-start, walk-down-done}
 use Rattle.gauss.proofs.Rows.{Along, along-start, along-step, none-found, found}
 use Rattle.gauss.specs.Elimination.{atFirst, clearedAbove, backfilled}
 use borrow.Author.Needs.{needs}
@@ -15,13 +15,13 @@ abbrev μ-loop : tie.MeasureT-loop
 μ-loop size m₀ i j₀ m j = size - j
 
 abbrev Inv-rows : tie.InvT-rows
-Inv-rows size m₀ i₀ m i = Fall (atFirst (clearedAbove size) size) i size m₀ m
+Inv-rows size m₀ i₀ m i = WalkDown (atFirst (clearedAbove size) size) i size m₀ m
 
 abbrev μ-rows : tie.MeasureT-rows
 μ-rows size m₀ i₀ m i = i
 
 rows-holds : tie.Need-rows-holds Inv-loop μ-loop Inv-rows μ-rows
-rows-holds c = fall-start
+rows-holds c = walk-down-start
 
 loop-holds : tie.Need-loop-holds Inv-loop μ-loop Inv-rows μ-rows
 loop-holds c = along-start (search needs)
@@ -43,7 +43,7 @@ rows-again-2 c =
 
 returns : tie.Need-returns Inv-loop μ-loop Inv-rows μ-rows
 unfolding backfilled
-returns c = fall-done (c .before .rows .inv) (search needs)
+returns c = walk-down-done (c .before .rows .inv) (search needs)
 
 pub backfill-spec : {M : Type 1} → statement M
 backfill-spec =

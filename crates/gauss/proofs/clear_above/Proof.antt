@@ -1,5 +1,4 @@
 -- `gauss::clear_above` meets its contract. The loop is the walk of `clearedAbove` over the rows above i; the measure is what is left of them.
--- Assumes nothing.
 use Prim.Native.Nat.{_-_}
 use Rattle.folds.proofs.Walks.{Walk, start, step-by, done}
 use Rattle.gauss.specs.Elimination.{clearUp, clearedAbove}

@@ -1,5 +1,4 @@
 -- `gauss::clear_below` meets its contract. The loop is the walk of `cleared` over the rows below h; the measure is what is left of the size.
--- Assumes nothing.
 use Prim.Native.Nat.{_+_, _-_}
 use Rattle.folds.proofs.Walks.{Walk, start, step-by, done}
 use Rattle.gauss.specs.Elimination.{clear, cleared}

@@ -1,9 +1,9 @@
 -- `gauss::echelon` meets its contract. The loop is the walk of `echeloned` over the columns, with h and the table for its state, and h is at most
--- k; the measure is what is left of the size. Assumes nothing.
+-- k; the measure is what is left of the size.
 use Prim.Native.Nat.{ℕ, _-_, _≤_}
 use mathlib.Core.Path.{ap}
 use Rattle.folds.proofs.Walks.{Walk, start, step-by, done}
-use Rattle.gauss.specs.Elimination.{Table, column, echeloned}
+use Rattle.gauss.specs.Elimination.{Matrix, column, echeloned}
 use Rattle.gauss.proofs.Tables.{skipped, pivoted}
 use borrow.Author.Needs.{needs}
 use Rattle.gauss.proofs.echelon.Statement.{statement}
@@ -36,7 +36,7 @@ loop-again-2 c =
 
 returns : tie.Need-returns Inv-loop μ-loop
 unfolding echeloned
-returns c = ap (λ (s : ℕ × Table). s .1) (done (c .before .loop .inv .0) (search needs))
+returns c = ap (λ (s : ℕ × Matrix). s .1) (done (c .before .loop .inv .0) (search needs))
 
 pub echelon-spec : {M : Type 1} → statement M
 echelon-spec =

@@ -1,5 +1,4 @@
 -- `gauss::entry_solved` meets its contract: its two arms are the two cases of `solvedAt`.
--- Assumes nothing.
 use Rattle.gauss.proofs.entry_solved.Statement.{statement}
 use Rattle.gauss.proofs.entry_solved.Tie as tie
 

@@ -1,5 +1,4 @@
 -- `gauss::fill_zero` meets its contract. The loop is the walk of `diagonalFilled`; the measure is what is left of the size.
--- Assumes nothing.
 use Prim.Native.Nat.{_-_}
 use Rattle.folds.proofs.Walks.{Walk, start, step, done}
 use Rattle.gauss.specs.Elimination.{fill, diagonalFilled}

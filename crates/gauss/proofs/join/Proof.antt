@@ -1,5 +1,4 @@
 -- `gauss::join` meets its contract. Both loops are walks: over the rows of `joined`, and along a row; the measures are what is left of the size.
--- Assumes nothing.
 use Prim.Native.Nat.{_-_}
 use mathlib.Core.Path.{ap}
 use lib.ListN.{getD}

@@ -1,5 +1,4 @@
 -- `gauss::left_solved` meets its contract. The invariants (`Passing`): every row, and every entry of the row, before this one passes.
--- Assumes nothing.
 use mathlib.Core.Path.{sym, _∙_}
 use borrow.Author.Tests.{not-true, not-false}
 use Rattle.gauss.specs.Elimination.{entry, solvedAt, solvedRow, leftSolved}

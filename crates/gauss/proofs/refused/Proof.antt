@@ -1,5 +1,4 @@
 -- `gauss::refused` meets its contract: 0.0 / 0.0 computes to the NaN.
--- Assumes nothing.
 use lib.Ieee.{div, ofBits}
 use mathlib.Core.Path.{refl}
 use Rattle.gauss.proofs.refused.Statement.{statement}

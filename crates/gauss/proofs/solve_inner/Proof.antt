@@ -1,5 +1,4 @@
 -- `gauss::solve_inner` meets its contract: the stages' contracts in a row (`stages`), and the two returns of a try.
--- Assumes nothing.
 use Rattle.gauss.proofs.Solving.{stages, attempt-answers, attempt-refuses}
 use mathlib.Core.Path.{_≡_}
 use Rattle.gauss.specs.Solutions.{eliminated}

@@ -1,8 +1,7 @@
--- `gauss::subtract` meets its contract. The loop is the walk of `lessened` along the row; the measure is what is left of the size.
--- Assumes nothing.
+-- `gauss::subtract` meets its contract. The loop is the walk of `rowSubtracted` along the row; the measure is what is left of the size.
 use Prim.Native.Nat.{_-_}
 use Rattle.folds.proofs.Walks.{Walk, start, step, done}
-use Rattle.gauss.specs.Elimination.{subtract, lessened}
+use Rattle.gauss.specs.Elimination.{subtract, rowSubtracted}
 use mathlib.Core.Path.{ap}
 use borrow.Author.Needs.{needs}
 use Rattle.gauss.proofs.subtract.Statement.{statement}
@@ -21,7 +20,7 @@ loop-again : tie.Need-loop-again Inv-loop μ-loop
 loop-again c = step (c .before .before .before .loop .inv) (search needs)
 
 returns : tie.Need-returns Inv-loop μ-loop
-unfolding lessened
+unfolding rowSubtracted
 returns c =
     let a = c .before .before .before .before .args in
     ap (subtract (a .p .now) (a .i) (a .factor) 20) (done (c .before .before .before .loop .inv) (search needs))

@@ -1,5 +1,4 @@
 -- `kde::ask` meets its contract: question 3 after what `ask_lengths` answers.
--- Assumes nothing.
 use borrow.Author.Needs.{needs}
 use Rattle.kde.specs.Answers.{asked}
 use Rattle.kde.proofs.ask.Statement.{statement}

@@ -1,5 +1,4 @@
 -- `kde::ask_lengths` meets its contract: each return is what the definition's tests pick.
--- Assumes nothing.
 use borrow.Author.Tests.{lt-leb, le-leb}
 use Rattle.kde.specs.Answers.{lengthsAsked}
 use Rattle.kde.proofs.ask_lengths.Statement.{statement}

@@ -1,5 +1,4 @@
 -- `kde::bin_count` meets its contract: one case of the definition for each case of the tolerance.
--- Assumes nothing.
 use lib.Ieee.{ofBits, lt}
 use Rattle.kde.specs.Tolerances.{binCountAnswer}
 use borrow.Author.Needs.{needs}

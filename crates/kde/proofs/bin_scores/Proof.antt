@@ -1,5 +1,4 @@
 -- `kde::bin_scores` meets its contract: the questions' answer picks the column that is written.
--- Assumes nothing.
 use mathlib.Core.Path.{sym, _∙_, subst}
 use Prim.Native.Nat.{ℕ, _-_, _^_, _≤_}
 use native.Mathlib.Omega.{arith}

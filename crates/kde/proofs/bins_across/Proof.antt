@@ -1,5 +1,4 @@
 -- `kde::bins_across` meets its contract: the calls' own contracts, and the law that abs() changes nothing here.
--- Assumes nothing.
 use mathlib.Core.Path.{_≡_, sym, ap, _∙_}
 use lib.Ieee.{binary32, toUnsigned, sub}
 use Rattle.floats.specs.Whole.{ceiled}

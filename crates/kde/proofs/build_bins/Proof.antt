@@ -1,5 +1,4 @@
 -- `kde::build_bins` meets its contract: the bins of `mix`, raised where the builder is monotonic.
--- Assumes nothing.
 use mathlib.Core.Path.{sym, _∙_}
 use Prim.Native.Nat.{_^_}
 use native.Mathlib.Omega.{arith}

@@ -1,5 +1,4 @@
 -- `kde::count_flags` meets its contract: the flags are counted from the front (`Counting`).
--- Assumes nothing.
 use mathlib.Core.Path.{refl}
 use Prim.Native.Nat.{ℕ, _-_}
 use lib.ListN.{length, getD}

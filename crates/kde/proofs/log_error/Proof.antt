@@ -1,5 +1,4 @@
 -- `kde::log_error` meets its contract: its test is that of the laws of Logs.
--- Assumes nothing.
 use mathlib.Core.Path.{_∙_, ap}
 use borrow.Author.Needs.{needs}
 use lib.Ieee.{ofBits, neg, div}

@@ -1,5 +1,4 @@
 -- `kde::log_errors` meets its contract: the questions' answer picks the column that is written.
--- Assumes nothing.
 use mathlib.Core.Path.{sym, _∙_}
 use borrow.Author.Needs.{needs}
 use borrow.Author.Tests.{eqb-true}

@@ -1,5 +1,4 @@
 -- `kde::lower_bin` meets its contract: the laws of Steps on the number of steps, held to the last bin as a float.
--- Assumes nothing.
 use mathlib.Core.Path.{_≡_, ap, _∙_}
 use Prim.Native.Nat.{_^_}
 use native.Mathlib.Omega.{arith}
@@ -8,7 +7,7 @@ use lib.Dec.{le→leb}
 use lib.Ieee.{Float, binary64, inFloat, ofInt, ofBits, toUnsigned, sub, div}
 use lib.Ieee.Fits.{div-fits}
 use lib.IntN.{pos}
-use Rattle.floats.specs.Least.{lesser}
+use Rattle.floats.specs.MinMax.{minNumber}
 use Rattle.kde.specs.declared.Estimator.{Estimator}
 use Rattle.kde.specs.Estimate.{stepsUp}
 use Rattle.kde.proofs.Steps.{held, held-range, held-is}
@@ -26,7 +25,7 @@ int-to-float-min-f64 c = le→leb (c .before .before .before .args .last) (2 ^ 5
 cut : (c : tie.After-min-f64)
     → c .min-f64 .result ≡ held (c .before .before .before .before .before .args .last) (steps (c .before .before .before .before .before .args .estimator) (c .before .before .before .before .before .args .score))
 unfolding ofBits
-cut c = c .min-f64 .ensures ∙ ap (lesser (ofInt binary64 (pos (c .before .before .before .before .before .args .last)))) (c .before .max-f64 .ensures)
+cut c = c .min-f64 .ensures ∙ ap (minNumber (ofInt binary64 (pos (c .before .before .before .before .before .args .last)))) (c .before .max-f64 .ensures)
 
 truncating-f64-to-u64-requires : tie.Need-truncating-f64-to-u64-requires
 truncating-f64-to-u64-requires c κs = rw (cut c) (held-range _ (search needs) _)

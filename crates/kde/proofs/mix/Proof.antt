@@ -1,10 +1,9 @@
 -- `kde::mix` meets its contract: the column is written from the front (`Writing`), by the definition's own operations.
--- Assumes nothing.
 use mathlib.Core.Path.{refl}
 use Prim.Native.Nat.{_-_}
 use lib.ListN.{length}
 use lib.Ieee.{ofBits, nan}
-use Rattle.folds.proofs.Columns.{Writing, writing-start, writing-next, writing-all}
+use Rattle.folds.proofs.Writing.{Writing, writing-start, writing-next, writing-all}
 use Rattle.kde.specs.Bins.{binAt, mixed}
 use borrow.Author.Needs.{needs}
 use Rattle.kde.proofs.mix.Statement.{statement}

@@ -1,5 +1,5 @@
 -- `kde::posterior_at` meets its contract: its two bins are the definition's by the contracts of `lower_bin` and `upper_bin`, and the rest is
--- the definition's own operations. Assumes nothing.
+-- the definition's own operations.
 use Prim.Native.Nat.{_^_}
 use native.Mathlib.Omega.{arith}
 use borrow.Author.Needs.{needs}

@@ -1,5 +1,4 @@
 -- `kde::posterior_bins` meets its contract: the questions' answer picks the column that is written.
--- Assumes nothing.
 use mathlib.Core.Path.{sym, _∙_}
 use borrow.Author.Needs.{needs}
 use lib.Ieee.{ofBits, div}

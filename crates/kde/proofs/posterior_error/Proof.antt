@@ -1,5 +1,4 @@
 -- `kde::posterior_error` meets its contract: question 3, and then the definition by `posterior_at`.
--- Assumes nothing.
 use mathlib.Core.Path.{sym, _∙_}
 use Rattle.kde.specs.Estimate.{posteriorAnswer}
 use Rattle.kde.proofs.Questions.{in-range}

@@ -1,7 +1,6 @@
 -- `kde::raise` meets its contract: the column is raised from the back (`Raising`), and the measure is the bin's number.
--- Assumes nothing.
 use Rattle.kde.specs.Bins.{raised}
-use Rattle.kde.proofs.Columns.{Raising, raising-start, raising-step, raising-done}
+use Rattle.kde.proofs.Maps.{Raising, raising-start, raising-step, raising-done}
 use borrow.Author.Needs.{needs}
 use Rattle.kde.proofs.raise.Statement.{statement}
 use Rattle.kde.proofs.raise.Tie as tie

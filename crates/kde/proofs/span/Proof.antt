@@ -1,17 +1,16 @@
 -- `kde::span` meets its contract: both numbers are folded over the scores from the front (`Folding`).
--- Assumes nothing.
 use Prim.Native.Nat.{_-_}
 use lib.ListN.{length}
 use lib.Ieee.{nan, neg}
-use Rattle.floats.specs.Least.{lesser, greater}
-use Rattle.kde.specs.Bins.{largest}
-use Rattle.kde.proofs.Columns.{Folding, folding-start, folding-step, folding-done}
+use Rattle.floats.specs.MinMax.{minNumber, maxNumber}
+use Rattle.floats.specs.Constants.{f64Max}
+use Rattle.kde.proofs.Maps.{Folding, folding-start, folding-step, folding-done}
 use borrow.Author.Needs.{needs}
 use Rattle.kde.proofs.span.Statement.{statement}
 use Rattle.kde.proofs.span.Tie as tie
 
 abbrev Inv-loop : tie.InvT-loop
-Inv-loop scores least₀ greatest₀ i₀ least greatest i = Folding lesser largest scores i least × Folding greater (neg largest) scores i greatest
+Inv-loop scores least₀ greatest₀ i₀ least greatest i = Folding minNumber f64Max scores i least × Folding maxNumber (neg f64Max) scores i greatest
 
 abbrev μ-loop : tie.MeasureT-loop
 μ-loop scores least₀ greatest₀ i₀ least greatest i = length scores - i

@@ -1,5 +1,4 @@
 -- `kde::upper_bin` meets its contract: one more, or none at the last bin, by a law of Steps.
--- Assumes nothing.
 use native.Mathlib.Omega.{arith}
 use borrow.Author.Needs.{needs}
 use lib.Dec.{ltb}

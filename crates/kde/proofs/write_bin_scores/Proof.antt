@@ -1,12 +1,11 @@
 -- `kde::write_bin_scores` meets its contract: the column is written from the front (`Writing`), by the definition's own operations.
--- Assumes nothing.
 use mathlib.Core.Path.{refl}
 use Prim.Native.Nat.{_-_, _^_}
 use lib.ListN.{length}
 use lib.Dec.{le→leb}
 use lib.Ieee.{inFloat, nan}
 use native.Mathlib.Omega.{arith}
-use Rattle.folds.proofs.Columns.{Writing, writing-start, writing-next, writing-all}
+use Rattle.folds.proofs.Writing.{Writing, writing-start, writing-next, writing-all}
 use Rattle.kde.specs.Bins.{binScore}
 use borrow.Author.Needs.{needs}
 use Rattle.kde.proofs.write_bin_scores.Statement.{statement}

@@ -1,12 +1,11 @@
 -- `kde::write_errors` meets its contract: the column is written from the front (`Writing`), each place by the definition of one.
--- Assumes nothing.
 use mathlib.Core.Path.{_∙_, ap, refl}
 use Prim.Native.Nat.{ℕ, _-_}
 use lib.ListN.{length, getD}
 use lib.Ieee.{nan}
-use Rattle.folds.specs.Columns.{tabulated}
-use Rattle.folds.proofs.Columns.{Writing, writing-start, writing-next, writing-all}
-use Rattle.kde.proofs.Columns.{tabulated-map}
+use Rattle.folds.specs.Lists.{tabulated}
+use Rattle.folds.proofs.Writing.{Writing, writing-start, writing-next, writing-all}
+use Rattle.kde.proofs.Maps.{tabulated-map}
 use Rattle.kde.specs.Estimate.{posteriorError}
 use borrow.Author.Needs.{needs}
 use Rattle.kde.proofs.write_errors.Statement.{statement}

@@ -1,4 +1,4 @@
--- `known_points::count_bits` is safe: the count is at most the entries so far. Assumes nothing.
+-- `known_points::count_bits` is safe: the count is at most the entries so far.
 use Prim.Native.Nat.{_-_, _≤_}
 use lib.Dec.{eqb}
 use lib.ListN.{length}

@@ -1,5 +1,4 @@
 -- `line_check::check_line` meets its contract: the refusals are laws of `Check`, and the rest is `judged` at the rate's number.
--- Assumes nothing.
 use mathlib.Core.Path.{_∙_}
 use borrow.Author.Needs.{needs}
 use Rattle.line_check.proofs.Check.{rate-small, too-long, past-the-end}

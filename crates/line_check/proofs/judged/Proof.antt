@@ -1,5 +1,4 @@
 -- `line_check::judged` meets its contract: each way that it can go is a law of `Check`, at the counts that its two callees give.
--- Assumes nothing.
 use borrow.Author.Needs.{needs}
 use Rattle.line_check.proofs.Later.{own-row, decoys-small, product-fits}
 use Rattle.line_check.proofs.Check.{later-qualifies, no-row, own-fails, own-qualifies}

@@ -1,5 +1,4 @@
 -- `line_check::last_later` meets its contract: the pass of `Later`, row by row from the line on.
--- Assumes nothing.
 use Prim.Native.Nat.{_-_}
 use native.Mathlib.Omega.{arith}
 use borrow.Author.Needs.{needs}

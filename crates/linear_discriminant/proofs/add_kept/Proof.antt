@@ -1,8 +1,8 @@
--- `linear_discriminant::add_kept` meets its contract: a walk over the wide pairs of rows, and one over the others. Assumes nothing.
+-- `linear_discriminant::add_kept` meets its contract: a walk over the wide pairs of rows, and one over the others.
 use mathlib.Core.Path.{_∙_, ap}
 use Prim.Native.Nat.{_*_, _-_}
 use borrow.Author.Needs.{needs}
-use Rattle.folds.specs.Walks.{across}
+use Rattle.folds.specs.Walks.{forRange}
 use Rattle.folds.proofs.Walks.{Walk, start, step-by, done}
 use Rattle.linear_discriminant.specs.Passes.{pairAdded, keptAdded}
 use Rattle.linear_discriminant.proofs.add_kept.Statement.{statement}
@@ -34,7 +34,7 @@ loop2-again c = step-by (c .before .before .before .loop2 .inv) (search needs) (
 
 returns : tie.Need-returns Inv-loop μ-loop Inv-loop2 μ-loop2
 unfolding keptAdded
-returns c = done (c .before .loop2 .inv) (search needs) ∙ ap (across _ 5 10) (done (c .before .before .before .loop .inv) (search needs))
+returns c = done (c .before .loop2 .inv) (search needs) ∙ ap (forRange _ 5 10) (done (c .before .before .before .loop .inv) (search needs))
 
 pub add-kept-spec : {M : Type 1} → statement M
 add-kept-spec =

@@ -1,14 +1,14 @@
 -- `linear_discriminant::add_pair` meets its contract: two rows are read, the kept rows are added to them one by one, entry by entry, and the two
--- are written back. Assumes nothing.
+-- are written back.
 use mathlib.Core.Path.{_≡_, refl}
 use Prim.Native.Nat.{_+_, _-_, _≤_}
 use lib.ListN.{getD}
 use lib.Ieee.{nan, binary64, add, mul}
 use borrow.Author.Needs.{needs}
-use Rattle.folds.proofs.Columns.{Writing, writing-start, writing-step, writing-done, Rewriting, rewriting-start, rewriting-step, rewriting-done}
+use Rattle.folds.proofs.Writing.{Writing, writing-start, writing-step, writing-done, Rewriting, rewriting-start, rewriting-step, rewriting-done}
 use Rattle.gauss.specs.Elimination.{entry}
-use Rattle.linear_discriminant.specs.Passes.{piled}
-use Rattle.linear_discriminant.proofs.Piles.{length-piled, piled-none, piled-more, pair-done}
+use Rattle.linear_discriminant.specs.Passes.{accumulated}
+use Rattle.linear_discriminant.proofs.Piles.{length-piled, accumulated-none, accumulated-more, pair-done}
 use Rattle.linear_discriminant.proofs.add_pair.Statement.{statement}
 use Rattle.linear_discriminant.proofs.add_pair.Tie as tie
 
@@ -28,7 +28,7 @@ abbrev μ-loop3 : tie.MeasureT-loop3
 μ-loop3 table kept m j width a₀ b₀ g x y d₀ a b d = width - d
 
 abbrev Inv-loop2 : tie.InvT-loop2
-Inv-loop2 table kept m j width a₀ b₀ g₀ a b g = (g ≤ m) × (a ≡ piled width kept g j j table) × (b ≡ piled width kept g (j + 1) j table)
+Inv-loop2 table kept m j width a₀ b₀ g₀ a b g = (g ≤ m) × (a ≡ accumulated width kept g j j table) × (b ≡ accumulated width kept g (j + 1) j table)
 
 abbrev μ-loop2 : tie.MeasureT-loop2
 μ-loop2 table kept m j width a₀ b₀ g₀ a b g = m - g
@@ -46,8 +46,8 @@ loop2-holds c =
     let a = c .before .before .args in
     let w = c .before .loop .inv in (
       search needs,
-      piled-none (a .width) (a .kept .now) (a .j) (a .j) (a .table .now) (writing-done (w .0) (search needs)),
-      piled-none (a .width) (a .kept .now) (a .j + 1) (a .j) (a .table .now) (writing-done (w .1) (search needs)),
+      accumulated-none (a .width) (a .kept .now) (a .j) (a .j) (a .table .now) (writing-done (w .0) (search needs)),
+      accumulated-none (a .width) (a .kept .now) (a .j + 1) (a .j) (a .table .now) (writing-done (w .1) (search needs)),
     )
 
 loop3-holds : tie.Need-loop3-holds Inv-loop μ-loop Inv-loop3 μ-loop3 Inv-loop2 μ-loop2
@@ -73,8 +73,8 @@ loop2-again c =
     let w = c .before .before .before .before .before .loop2 in
     let v = c .before .loop3 .inv in (
       search needs,
-      piled-more (a .width) (a .kept .now) (a .j) (a .j) (a .table .now) (w .g) (w .inv .1) (rewriting-done (v .0) (search needs) (search needs)),
-      piled-more (a .width) (a .kept .now) (a .j + 1) (a .j) (a .table .now) (w .g) (w .inv .2) (rewriting-done (v .1) (search needs) (search needs)),
+      accumulated-more (a .width) (a .kept .now) (a .j) (a .j) (a .table .now) (w .g) (w .inv .1) (rewriting-done (v .0) (search needs) (search needs)),
+      accumulated-more (a .width) (a .kept .now) (a .j + 1) (a .j) (a .table .now) (w .g) (w .inv .2) (rewriting-done (v .1) (search needs) (search needs)),
     )
 
 element-set-from-table :

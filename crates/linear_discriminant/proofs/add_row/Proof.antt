@@ -1,10 +1,10 @@
--- `linear_discriminant::add_row` meets its contract: a column written from the front. Assumes nothing.
+-- `linear_discriminant::add_row` meets its contract: a column written from the front.
 use mathlib.Core.Path.{refl}
 use Prim.Native.Nat.{_-_}
 use lib.ListN.{getD}
 use lib.Ieee.{nan, binary64, add}
 use borrow.Author.Needs.{needs}
-use Rattle.folds.proofs.Columns.{Writing, writing-start, writing-step, writing-done}
+use Rattle.folds.proofs.Writing.{Writing, writing-start, writing-step, writing-done}
 use Rattle.linear_discriminant.specs.Rows.{feature}
 use Rattle.linear_discriminant.specs.Passes.{addedRow}
 use Rattle.linear_discriminant.proofs.add_row.Statement.{statement}

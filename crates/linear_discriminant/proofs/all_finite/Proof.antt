@@ -1,4 +1,4 @@
--- `linear_discriminant::all_finite` meets its contract: the invariant is that `all` says it of the coefficients passed. Assumes nothing.
+-- `linear_discriminant::all_finite` meets its contract: the invariant is that `all` says it of the coefficients passed.
 use mathlib.Core.Path.{_≡_, refl}
 use Prim.Native.Nat.{_-_, _≤_}
 use lib.ListN.{getD}

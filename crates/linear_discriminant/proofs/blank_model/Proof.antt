@@ -1,4 +1,4 @@
--- `linear_discriminant::blank_model` meets its contract: 0.0 / 0.0 is the NaN. Assumes nothing.
+-- `linear_discriminant::blank_model` meets its contract: 0.0 / 0.0 is the NaN.
 use mathlib.Core.Path.{refl}
 use lib.Ieee.{div, ofBits}
 use Rattle.linear_discriminant.proofs.blank_model.Statement.{statement}

@@ -1,4 +1,4 @@
--- `linear_discriminant::blank_run` meets its contract: both columns are filled with the NaN. Assumes nothing.
+-- `linear_discriminant::blank_run` meets its contract: both columns are filled with the NaN.
 use borrow.Author.Needs.{needs}
 use Rattle.linear_discriminant.proofs.Runs.{blanked}
 use Rattle.linear_discriminant.proofs.blank_run.Statement.{statement}

@@ -1,9 +1,9 @@
--- `linear_discriminant::centred` meets its contract: a column written from the front, twice over its first eight numbers. Assumes nothing.
+-- `linear_discriminant::centred` meets its contract: a column written from the front, twice over its first eight numbers.
 use mathlib.Core.Path.{_∙_, subst, _≡_, refl}
 use Prim.Native.Nat.{ℕ, _-_, _≤_}
 use lib.Ieee.{nan}
 use borrow.Author.Needs.{needs}
-use Rattle.folds.proofs.Columns.{Writing, writing-start, writing-step, writing-done}
+use Rattle.folds.proofs.Writing.{Writing, writing-start, writing-step, writing-done}
 use Rattle.linear_discriminant.specs.Passes.{centredAt, centredRow}
 use Rattle.linear_discriminant.proofs.Halves.{centred-low, centred-high}
 use Rattle.linear_discriminant.proofs.centred.Statement.{statement}

@@ -1,4 +1,4 @@
--- `linear_discriminant::class_of` meets its contract. Assumes nothing.
+-- `linear_discriminant::class_of` meets its contract.
 use borrow.Author.Needs.{needs}
 use Rattle.linear_discriminant.proofs.Classes.{class-of, class-small}
 use Rattle.linear_discriminant.proofs.class_of.Statement.{statement}

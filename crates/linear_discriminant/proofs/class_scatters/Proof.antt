@@ -1,5 +1,5 @@
 -- `linear_discriminant::class_scatters` meets its contract. The invariant: of each class, the table and the kept rows together hold the rows
--- passed (`Gathered`); the measure is what is left of the rows. Assumes nothing.
+-- passed (`Gathered`); the measure is what is left of the rows.
 use mathlib.Core.Path.{refl}
 use Prim.Native.Nat.{_-_}
 use native.Mathlib.Omega.{arith}

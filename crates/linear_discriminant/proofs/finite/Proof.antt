@@ -1,4 +1,4 @@
--- `linear_discriminant::finite` meets its contract: what the two comparisons say of each kind of float. Assumes nothing.
+-- `linear_discriminant::finite` meets its contract: what the two comparisons say of each kind of float.
 use Rattle.linear_discriminant.proofs.Coefficients.{between-infinities}
 use Rattle.linear_discriminant.proofs.finite.Statement.{statement}
 use Rattle.linear_discriminant.proofs.finite.Tie as tie

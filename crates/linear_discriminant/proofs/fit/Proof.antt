@@ -1,5 +1,4 @@
 -- `linear_discriminant::fit` meets its contract: the targets are the labels that are no decoys, and each return is the definition's case.
--- Assumes nothing.
 use borrow.Author.Needs.{needs}
 use Rattle.linear_discriminant.proofs.Classes.{rest-targets, decoys-within}
 use Rattle.linear_discriminant.proofs.Fits.{no-decoy, no-target, two-classes}

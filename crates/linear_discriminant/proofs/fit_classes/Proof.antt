@@ -1,4 +1,4 @@
--- `linear_discriminant::fit_classes` meets its contract: the passes one after the other. A count of rows is exact as an f64. Assumes nothing.
+-- `linear_discriminant::fit_classes` meets its contract: the passes one after the other. A count of rows is exact as an f64.
 use Prim.Native.Nat.{_^_}
 use lib.Dec.{le→leb}
 use lib.Ieee.{inFloat}
@@ -24,7 +24,7 @@ returns c =
     (c .before .before .before .before .before .before .before .before .before .before .before .mean-of2 .ensures)
     (c .before .before .before .before .before .before .before .before .before .class-scatters .ensures)
     (c .before .before .before .before .before .within .ensures)
-    (c .before .before .less .ensures)
+    (c .before .before .subtract-rows .ensures)
     (c .before .solve .ensures)
     (c .model-of .ensures)
 

@@ -1,11 +1,11 @@
--- `linear_discriminant::mean_of` meets its contract: a column written from the front. A count of rows is exact as an f64. Assumes nothing.
+-- `linear_discriminant::mean_of` meets its contract: a column written from the front. A count of rows is exact as an f64.
 use mathlib.Core.Path.{refl}
 use Prim.Native.Nat.{_-_, _^_}
 use lib.Dec.{le→leb}
 use lib.ListN.{getD}
 use lib.Ieee.{nan, binary64, div, inFloat}
 use borrow.Author.Needs.{needs}
-use Rattle.folds.proofs.Columns.{Writing, writing-start, writing-step, writing-done}
+use Rattle.folds.proofs.Writing.{Writing, writing-start, writing-step, writing-done}
 use Rattle.linear_discriminant.specs.Passes.{meanOf}
 use Rattle.linear_discriminant.proofs.mean_of.Statement.{statement}
 use Rattle.linear_discriminant.proofs.mean_of.Tie as tie

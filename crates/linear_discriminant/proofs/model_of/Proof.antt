@@ -1,4 +1,4 @@
--- `linear_discriminant::model_of` meets its contract: each arm is the definition's case. Assumes nothing.
+-- `linear_discriminant::model_of` meets its contract: each arm is the definition's case.
 use borrow.Author.Needs.{needs}
 use Rattle.linear_discriminant.proofs.Fits.{model-answers, model-refuses}
 use Rattle.linear_discriminant.proofs.model_of.Statement.{statement}

@@ -1,4 +1,4 @@
--- `linear_discriminant::narrow_block` meets its contract: a walk that writes one place a turn. Assumes nothing.
+-- `linear_discriminant::narrow_block` meets its contract: a walk that writes one place a turn.
 use mathlib.Core.Path.{_≡_}
 use Prim.Native.Nat.{_-_}
 use lib.ListN.{getD, length}

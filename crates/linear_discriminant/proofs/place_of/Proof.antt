@@ -1,4 +1,4 @@
--- `linear_discriminant::place_of` meets its contract. Assumes nothing.
+-- `linear_discriminant::place_of` meets its contract.
 use borrow.Author.Tests.{lt-ltb, le-ltb}
 use borrow.Author.Needs.{needs}
 use Rattle.linear_discriminant.proofs.place_of.Statement.{statement}

@@ -1,4 +1,4 @@
--- `linear_discriminant::scatter_of` meets its contract: where row j has not the place, row k has. Assumes nothing.
+-- `linear_discriminant::scatter_of` meets its contract: where row j has not the place, row k has.
 use borrow.Author.Needs.{needs}
 use Rattle.linear_discriminant.proofs.Halves.{width-most, place-other, scatter-own, scatter-other}
 use Rattle.linear_discriminant.proofs.scatter_of.Statement.{statement}

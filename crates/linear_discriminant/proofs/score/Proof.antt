@@ -1,4 +1,4 @@
--- `linear_discriminant::score` meets its contract: a walk over the row's twenty numbers. Assumes nothing.
+-- `linear_discriminant::score` meets its contract: a walk over the row's twenty numbers.
 use Prim.Native.Nat.{_-_}
 use lib.ListN.{getD}
 use lib.Ieee.{nan}

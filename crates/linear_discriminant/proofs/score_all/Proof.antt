@@ -1,10 +1,10 @@
 -- `linear_discriminant::score_all` meets its contract. The invariant: both columns hold the definition's values up to the block; the measure is
--- what is left of the rows. Assumes nothing.
+-- what is left of the rows.
 use mathlib.Core.Path.{refl, ap}
 use Prim.Native.Nat.{_-_}
 use lib.Ieee.{nan, binary32}
 use borrow.Author.Needs.{needs}
-use Rattle.folds.proofs.Columns.{Writing, writing-start}
+use Rattle.folds.proofs.Writing.{Writing, writing-start}
 use Rattle.floats.specs.Convert.{converted}
 use Rattle.linear_discriminant.specs.Scores.{scoreAt, narrowAt}
 use Rattle.linear_discriminant.proofs.Blocks.{written-block}

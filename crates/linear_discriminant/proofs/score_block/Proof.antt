@@ -1,4 +1,4 @@
--- `linear_discriminant::score_block` meets its contract: a walk over the block's rows, in each a walk over its twenty numbers. Assumes nothing.
+-- `linear_discriminant::score_block` meets its contract: a walk over the block's rows, in each a walk over its twenty numbers.
 use mathlib.Core.Path.{_≡_, ap}
 use Prim.Native.Nat.{_-_}
 use lib.ListN.{length, set}

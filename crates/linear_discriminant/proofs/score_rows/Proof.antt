@@ -1,4 +1,4 @@
--- `linear_discriminant::score_rows` meets its contract: each question's refusal is the definition's case, and so is the run. Assumes nothing.
+-- `linear_discriminant::score_rows` meets its contract: each question's refusal is the definition's case, and so is the run.
 use Prim.Native.Nat.{_*_}
 use native.Mathlib.Omega.{arith}
 use lib.ListN.{length}

@@ -1,4 +1,4 @@
--- `linear_discriminant::sum_rows` meets its contract: a walk over the rows. Assumes nothing.
+-- `linear_discriminant::sum_rows` meets its contract: a walk over the rows.
 use Prim.Native.Nat.{_-_}
 use lib.IntN.{pos}
 use lib.ListN.{getD}

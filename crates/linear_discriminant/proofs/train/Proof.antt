@@ -1,4 +1,4 @@
--- `linear_discriminant::train` meets its contract: each question's refusal is the definition's case, and so is the fit. Assumes nothing.
+-- `linear_discriminant::train` meets its contract: each question's refusal is the definition's case, and so is the fit.
 use Prim.Native.Nat.{_*_}
 use lib.ListN.{length}
 use borrow.Author.Needs.{needs}

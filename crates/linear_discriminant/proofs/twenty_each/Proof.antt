@@ -1,4 +1,4 @@
--- `linear_discriminant::twenty_each` meets its contract. Assumes nothing.
+-- `linear_discriminant::twenty_each` meets its contract.
 use Rattle.linear_discriminant.proofs.Lengths.{by-quotient}
 use Rattle.linear_discriminant.proofs.twenty_each.Statement.{statement}
 use Rattle.linear_discriminant.proofs.twenty_each.Tie as tie

@@ -1,4 +1,4 @@
--- `linear_discriminant::width_of` meets its contract. Assumes nothing.
+-- `linear_discriminant::width_of` meets its contract.
 use borrow.Author.Tests.{lt-ltb, le-ltb}
 use Rattle.linear_discriminant.proofs.width_of.Statement.{statement}
 use Rattle.linear_discriminant.proofs.width_of.Tie as tie

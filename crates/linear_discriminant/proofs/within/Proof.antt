@@ -1,10 +1,10 @@
--- `linear_discriminant::within` meets its contract: a column of rows written from the front. Assumes nothing.
+-- `linear_discriminant::within` meets its contract: a column of rows written from the front.
 use mathlib.Core.List.{[]}
 use mathlib.Core.Path.{refl}
 use Prim.Native.Nat.{_-_}
 use lib.ListN.{getD}
 use borrow.Author.Needs.{needs}
-use Rattle.folds.proofs.Columns.{Writing, writing-start, writing-step, writing-done}
+use Rattle.folds.proofs.Writing.{Writing, writing-start, writing-step, writing-done}
 use Rattle.linear_discriminant.specs.Passes.{withinRow, withinTable}
 use Rattle.linear_discriminant.proofs.within.Statement.{statement}
 use Rattle.linear_discriminant.proofs.within.Tie as tie

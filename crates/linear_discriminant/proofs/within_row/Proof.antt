@@ -1,11 +1,11 @@
--- `linear_discriminant::within_row` meets its contract: a column written from the front. Assumes nothing.
+-- `linear_discriminant::within_row` meets its contract: a column written from the front.
 use mathlib.Core.Path.{refl}
 use mathlib.Core.List.{[]}
 use Prim.Native.Nat.{_-_}
 use lib.ListN.{getD}
 use lib.Ieee.{nan}
 use borrow.Author.Needs.{needs}
-use Rattle.folds.proofs.Columns.{Writing, writing-start, writing-step, writing-done}
+use Rattle.folds.proofs.Writing.{Writing, writing-start, writing-step, writing-done}
 use Rattle.linear_discriminant.specs.Passes.{withinAt, withinRow}
 use Rattle.linear_discriminant.proofs.within_row.Statement.{statement}
 use Rattle.linear_discriminant.proofs.within_row.Tie as tie

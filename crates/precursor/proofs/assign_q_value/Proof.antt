@@ -1,4 +1,4 @@
--- `precursor::assign_q_value` meets its contract: `Assigned` is its loop's invariant, and i the measure. Assumes nothing.
+-- `precursor::assign_q_value` meets its contract: `Assigned` is its loop's invariant, and i the measure.
 use mathlib.Core.Path.{sym}
 use mathlib.Core.Bool.{_&&_}
 use Prim.Native.Nat.{_-_, _%_, _^_, _≤_, _<_}

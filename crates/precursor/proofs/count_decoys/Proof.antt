@@ -1,4 +1,4 @@
--- `precursor::count_decoys` meets its contract: the sum of the lowest bits up to a row is its decoys. Assumes nothing.
+-- `precursor::count_decoys` meets its contract: the sum of the lowest bits up to a row is its decoys.
 use Prim.Native.Nat.{_-_}
 use borrow.Author.Needs.{needs}
 use lib.ListN.{length}

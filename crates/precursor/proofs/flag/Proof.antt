@@ -1,4 +1,4 @@
--- `precursor::flag` meets its contract: −1 is the one label whose 32 bits are all ones. Assumes nothing.
+-- `precursor::flag` meets its contract: −1 is the one label whose 32 bits are all ones.
 use lib.Dec.{eqb}
 use mir.Syntax.{w32}
 use mir.Val.{ofZ}

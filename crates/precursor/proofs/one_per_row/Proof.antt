@@ -1,4 +1,4 @@
--- `precursor::one_per_row` meets its contract: its test and what `columns_fit` ensures. Assumes nothing.
+-- `precursor::one_per_row` meets its contract: its test and what `columns_fit` ensures.
 use mathlib.Core.Path.{ap}
 use mathlib.Core.Bool.{Bool, _&&_}
 use lib.Dec.{eqb}

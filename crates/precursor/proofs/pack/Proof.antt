@@ -1,4 +1,4 @@
--- `precursor::pack` meets its contract: the column is written from the front with the key of each row (`Writing`). Assumes nothing.
+-- `precursor::pack` meets its contract: the column is written from the front with the key of each row (`Writing`).
 use mathlib.Core.Path.{_≡_, ap, _∙_}
 use mathlib.Core.List.{List}
 use mathlib.Core.Bool.{cond}
@@ -11,7 +11,7 @@ use mir.ValLaws.{toZ-ofZ}
 use Rattle.counting.specs.Labels.{isDecoy}
 use lib.ListN.{length, getD}
 use lib.Ieee.{Float, nan, binary32}
-use Rattle.folds.proofs.Columns.{Writing, writing-step, writing-done}
+use Rattle.folds.proofs.Writing.{Writing, writing-step, writing-done}
 use Rattle.floats.specs.Convert.{converted}
 use Rattle.ranking.specs.Keys.{packed}
 use Rattle.precursor.specs.Packed.{along, rowKey, packedRows}

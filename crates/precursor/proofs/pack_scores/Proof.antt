@@ -1,4 +1,4 @@
--- `precursor::pack_scores` meets its contract: the column is written from the front with the key of each row (`Writing`). Assumes nothing.
+-- `precursor::pack_scores` meets its contract: the column is written from the front with the key of each row (`Writing`).
 use mathlib.Core.Path.{_≡_, sym, ap, _∙_}
 use mathlib.Core.List.{List, []}
 use Prim.Native.Nat.{ℕ, _-_, _*_}
@@ -6,7 +6,7 @@ use native.Mathlib.Nat.{add-zero}
 use borrow.Author.Needs.{needs}
 use lib.ListN.{length, getD}
 use lib.Ieee.{Float, nan, binary32}
-use Rattle.folds.proofs.Columns.{Writing, writing-step, writing-done}
+use Rattle.folds.proofs.Writing.{Writing, writing-step, writing-done}
 use Rattle.floats.specs.Convert.{converted}
 use Rattle.ranking.specs.Keys.{packed}
 use Rattle.precursor.specs.Packed.{rowKey, packedScores}

@@ -1,4 +1,4 @@
--- `precursor::picked` meets its contract: the laws of proofs/Joined.antt, filled with what the calls ensure. Assumes nothing.
+-- `precursor::picked` meets its contract: the laws of proofs/Joined.antt, filled with what the calls ensure.
 use borrow.Author.Needs.{needs}
 use Rattle.precursor.proofs.Joined.{sortable, assignable, picked-all}
 use Rattle.precursor.proofs.picked.Statement.{statement}

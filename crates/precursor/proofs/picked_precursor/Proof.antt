@@ -1,4 +1,4 @@
--- `precursor::picked_precursor` meets its contract: each way out is a law of proofs/Joined.antt, by the answers to the two questions. Assumes nothing.
+-- `precursor::picked_precursor` meets its contract: each way out is a law of proofs/Joined.antt, by the answers to the two questions.
 use mathlib.Core.Path.{sym, _∙_}
 use borrow.Author.Needs.{needs}
 use borrow.Author.Tests.{not-true, not-false}

@@ -1,4 +1,4 @@
--- `precursor::rank` meets its contract: the laws of proofs/Joined.antt, filled with what the calls ensure. Assumes nothing.
+-- `precursor::rank` meets its contract: the laws of proofs/Joined.antt, filled with what the calls ensure.
 use borrow.Author.Needs.{needs}
 use Rattle.precursor.proofs.Joined.{sortable-scores, writable, ranks-all}
 use Rattle.precursor.proofs.rank.Statement.{statement}

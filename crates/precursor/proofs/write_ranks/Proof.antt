@@ -1,4 +1,4 @@
--- `precursor::write_ranks` meets its contract: from the last key up, the rank goes to the key's place (`Ranking`). Assumes nothing.
+-- `precursor::write_ranks` meets its contract: from the last key up, the rank goes to the key's place (`Ranking`).
 use Prim.Native.Nat.{_-_, _<_}
 use native.Mathlib.Omega.{arith}
 use borrow.Author.Needs.{needs}

@@ -1,6 +1,5 @@
--- `qvalue::lower` meets its contract: its comparison is that of `lesser-number`, and each return is what it then picks.
--- Assumes nothing.
-use Rattle.counting.proofs.Lowest.{lesser-number}
+-- `qvalue::lower` meets its contract: its comparison is that of `min-of-number`, and each return is what it then picks.
+use Rattle.counting.proofs.RunningMinimum.{min-of-number}
 use Rattle.qvalue.proofs.lower.Statement.{statement}
 use Rattle.qvalue.proofs.lower.Tie as tie
 
@@ -8,5 +7,5 @@ pub lower-spec : {M : Type 1} → statement M
 lower-spec =
     tie.close
     (tie.spec
-    (λ c. rw (lesser-number (c .before .args .low) (c .before .args .next) (c .before .pre), c .if1 .taken))
-    (λ c. rw (lesser-number (c .before .args .low) (c .before .args .next) (c .before .pre), c .if1 .left)))
+    (λ c. rw (min-of-number (c .before .args .low) (c .before .args .next) (c .before .pre), c .if1 .taken))
+    (λ c. rw (min-of-number (c .before .args .low) (c .before .args .next) (c .before .pre), c .if1 .left)))

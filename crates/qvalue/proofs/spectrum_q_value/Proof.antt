@@ -1,5 +1,4 @@
 -- `qvalue::spectrum_q_value` meets its contract: each way that it can go is a law of `Spectrum`, at what its callees give.
--- Assumes nothing.
 use borrow.Author.Needs.{needs}
 use lib.Ieee.{ofBits, div}
 use Rattle.qvalue.proofs.Spectrum.{too-long, wrong-length, accepted}

@@ -1,10 +1,10 @@
 -- `qvalue::write_ratios` meets its contract: the counts of a row are those of the row before and the label's test (`Tally`), and the column is
--- that of the ratios up to the row (`Rated`). Assumes nothing.
+-- that of the ratios up to the row (`Rated`).
 use Prim.Native.Nat.{_-_}
 use native.Mathlib.Omega.{arith}
 use borrow.Author.Needs.{needs}
 use lib.ListN.{length}
-use Rattle.counting.proofs.Columns.{Rated, rated-start, rated-next, rated-done}
+use Rattle.counting.proofs.Passes.{Rated, rated-start, rated-next, rated-done}
 use Rattle.counting.proofs.Tally.{tally-next, next-decoy, next-target, count-is-float, mark-small}
 use Rattle.qvalue.proofs.write_ratios.Statement.{statement}
 use Rattle.qvalue.proofs.write_ratios.Tie as tie

@@ -1,4 +1,4 @@
--- `replay::all_cleared` is safe and ends. Assumes nothing.
+-- `replay::all_cleared` is safe and ends.
 use Prim.Native.Nat.{_-_}
 use borrow.Author.Needs.{needs}
 use Rattle.replay.proofs.all_cleared.Statement.{statement}

@@ -1,4 +1,4 @@
--- `replay::all_nan_32` is safe and ends. Assumes nothing.
+-- `replay::all_nan_32` is safe and ends.
 use Prim.Native.Nat.{_-_}
 use borrow.Author.Needs.{needs}
 use Rattle.replay.proofs.all_nan_32.Statement.{statement}

@@ -1,5 +1,5 @@
--- `replay::bits_32` is safe: no NaN reaches its last line. Assumes nothing.
-use Rattle.floats.proofs.Least.{not-nan}
+-- `replay::bits_32` is safe: no NaN reaches its last line.
+use Rattle.floats.proofs.MinMax.{not-nan}
 use Rattle.replay.proofs.bits_32.Statement.{statement}
 use Rattle.replay.proofs.bits_32.Tie as tie
 

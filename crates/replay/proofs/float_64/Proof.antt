@@ -1,4 +1,4 @@
--- `replay::float_64` is safe: the bits of no NaN reach its last line. Assumes nothing.
+-- `replay::float_64` is safe: the bits of no NaN reach its last line.
 use Prim.Native.Nat.{_%_}
 use mathlib.Core.Path.{_∙_, sym, subst}
 use mathlib.Core.Bool.{Bool, not}

@@ -1,4 +1,4 @@
--- `replay::joined` is safe. Assumes nothing.
+-- `replay::joined` is safe.
 use borrow.Author.Needs.{needs}
 use Rattle.replay.proofs.joined.Statement.{statement}
 use Rattle.replay.proofs.joined.Tie as tie

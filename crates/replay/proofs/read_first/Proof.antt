@@ -1,4 +1,4 @@
--- `replay::read_first` is safe. Assumes nothing.
+-- `replay::read_first` is safe.
 use mathlib.Core.Path.{sym}
 use lib.Seq.{length-take-le}
 use borrow.Author.Needs.{needs}

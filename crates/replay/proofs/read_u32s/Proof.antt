@@ -1,4 +1,4 @@
--- `replay::read_u32s` is safe and ends. Assumes nothing.
+-- `replay::read_u32s` is safe and ends.
 use Prim.Native.Nat.{_-_}
 use mathlib.Core.Path.{_≡_}
 use lib.ListN.{length}

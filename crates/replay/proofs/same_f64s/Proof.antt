@@ -1,4 +1,4 @@
--- `replay::same_f64s` is safe and ends. Assumes nothing.
+-- `replay::same_f64s` is safe and ends.
 use Prim.Native.Nat.{_-_}
 use borrow.Author.Needs.{needs}
 use Rattle.replay.proofs.same_f64s.Statement.{statement}

@@ -1,4 +1,4 @@
--- `replay_counting::same_spectra` is safe. Assumes nothing.
+-- `replay_counting::same_spectra` is safe.
 use mathlib.Core.Path.{sym}
 use lib.Seq.{length-take-le}
 use borrow.Author.Needs.{needs}

@@ -1,4 +1,4 @@
--- `replay_fdr::mismatches` is safe and ends. Assumes nothing.
+-- `replay_fdr::mismatches` is safe and ends.
 use Prim.Native.Nat.{_-_}
 use borrow.Author.Needs.{needs}
 use Rattle.replay_fdr.proofs.mismatches.Statement.{statement}

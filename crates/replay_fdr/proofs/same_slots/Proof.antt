@@ -1,4 +1,4 @@
--- `replay_fdr::same_slots` is safe. Assumes nothing.
+-- `replay_fdr::same_slots` is safe.
 use mathlib.Core.Path.{sym}
 use lib.Seq.{length-take-le}
 use borrow.Author.Needs.{needs}

@@ -1,4 +1,4 @@
--- `replay_gauss::mismatches` is safe and ends. Assumes nothing.
+-- `replay_gauss::mismatches` is safe and ends.
 use Prim.Native.Nat.{_-_}
 use borrow.Author.Needs.{needs}
 use Rattle.replay_gauss.proofs.mismatches.Statement.{statement}

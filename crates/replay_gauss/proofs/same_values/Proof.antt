@@ -1,4 +1,4 @@
--- `replay_gauss::same_values` is safe. Assumes nothing.
+-- `replay_gauss::same_values` is safe.
 use mathlib.Core.Path.{sym}
 use lib.Seq.{length-take-le}
 use borrow.Author.Needs.{needs}

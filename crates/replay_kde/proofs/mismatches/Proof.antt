@@ -1,4 +1,4 @@
--- `replay_kde::mismatches` is safe and ends. Assumes nothing.
+-- `replay_kde::mismatches` is safe and ends.
 use Prim.Native.Nat.{_-_}
 use borrow.Author.Needs.{needs}
 use Rattle.replay_kde.proofs.mismatches.Statement.{statement}

@@ -1,4 +1,4 @@
--- `replay_kde::same_on` is safe. Assumes nothing.
+-- `replay_kde::same_on` is safe.
 use mathlib.Core.Path.{sym}
 use lib.Seq.{length-take-le}
 use borrow.Author.Needs.{needs}

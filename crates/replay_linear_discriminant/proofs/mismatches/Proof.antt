@@ -1,4 +1,4 @@
--- `replay_linear_discriminant::mismatches` is safe and ends. Assumes nothing.
+-- `replay_linear_discriminant::mismatches` is safe and ends.
 use Prim.Native.Nat.{_-_}
 use borrow.Author.Needs.{needs}
 use Rattle.replay_linear_discriminant.proofs.mismatches.Statement.{statement}

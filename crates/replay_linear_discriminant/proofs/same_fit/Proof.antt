@@ -1,4 +1,4 @@
--- `replay_linear_discriminant::same_fit` is safe. Assumes nothing.
+-- `replay_linear_discriminant::same_fit` is safe.
 use mathlib.Core.Path.{sym}
 use lib.Seq.{length-take-le}
 use borrow.Author.Needs.{needs}

@@ -1,4 +1,4 @@
--- `vayemuku::line_numbers` meets its contract: each arm returns its case's numbers. Assumes nothing.
+-- `vayemuku::line_numbers` meets its contract: each arm returns its case's numbers.
 use borrow.Author.Needs.{needs}
 use Rattle.vayemuku.proofs.line_numbers.Statement.{statement}
 use Rattle.vayemuku.proofs.line_numbers.Tie as tie

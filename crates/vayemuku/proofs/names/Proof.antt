@@ -1,4 +1,4 @@
--- `vayemuku::names` meets its contract, by the number. Assumes nothing.
+-- `vayemuku::names` meets its contract, by the number.
 use mathlib.Core.Path.{refl}
 use borrow.Author.Tests.{eq-eqb, ne-eqb}
 use Rattle.vayemuku.proofs.names.Statement.{statement}

@@ -1,4 +1,4 @@
--- `vayemuku::posterior_value` meets its contract, by the answer's cases. Assumes nothing.
+-- `vayemuku::posterior_value` meets its contract, by the answer's cases.
 use mathlib.Core.Path.{refl}
 use borrow.Author.Needs.{needs}
 use lib.Ieee.{ofBits, div}

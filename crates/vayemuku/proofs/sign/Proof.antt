@@ -1,4 +1,4 @@
--- `vayemuku::sign` meets its contract: each arm returns its case's number. Assumes nothing.
+-- `vayemuku::sign` meets its contract: each arm returns its case's number.
 use borrow.Author.Needs.{needs}
 use Rattle.vayemuku.proofs.sign.Statement.{statement}
 use Rattle.vayemuku.proofs.sign.Tie as tie

@@ -1,4 +1,4 @@
--- `vayemuku::tolerance` meets its contract, by the unit. Assumes nothing.
+-- `vayemuku::tolerance` meets its contract, by the unit.
 use mathlib.Core.Path.{refl}
 use borrow.Author.Tests.{eq-eqb, ne-eqb}
 use Rattle.vayemuku.proofs.tolerance.Statement.{statement}

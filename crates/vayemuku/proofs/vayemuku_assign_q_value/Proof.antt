@@ -1,4 +1,4 @@
--- `vayemuku::vayemuku_assign_q_value` meets its contract: the number, the count and the columns of what the call answers. Assumes nothing.
+-- `vayemuku::vayemuku_assign_q_value` meets its contract: the number, the count and the columns of what the call answers.
 use mathlib.Core.Path.{sym, ap, _∙_}
 use borrow.Author.Needs.{needs}
 use Rattle.columns.specs.Refusals.{countedNumber, countedCount}

@@ -1,4 +1,4 @@
--- `vayemuku::vayemuku_bin_scores` meets its contract: the number, the two numbers and the column of what the call answers. Assumes nothing.
+-- `vayemuku::vayemuku_bin_scores` meets its contract: the number, the two numbers and the column of what the call answers.
 use mathlib.Core.Path.{ap, _∙_}
 use borrow.Author.Needs.{needs}
 use Rattle.kde.specs.Answers.{builtNumber, builtLeast, builtStep}

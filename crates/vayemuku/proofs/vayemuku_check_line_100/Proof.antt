@@ -1,4 +1,4 @@
--- `vayemuku::vayemuku_check_line_100` meets its contract: the numbers of what the check answers. Assumes nothing.
+-- `vayemuku::vayemuku_check_line_100` meets its contract: the numbers of what the check answers.
 use mathlib.Core.Path.{_≡_, ap, _∙_}
 use borrow.Author.Needs.{needs}
 use Rattle.line_check.specs.Check.{lineAnswer}

@@ -1,4 +1,4 @@
--- `vayemuku::vayemuku_posterior_error` meets its contract: the number and the value of what the call answers. Assumes nothing.
+-- `vayemuku::vayemuku_posterior_error` meets its contract: the number and the value of what the call answers.
 use mathlib.Core.Path.{ap, _∙_}
 use borrow.Author.Needs.{needs}
 use Rattle.kde.specs.Answers.{posteriorNumber, posteriorValue}

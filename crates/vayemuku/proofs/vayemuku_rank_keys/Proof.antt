@@ -1,7 +1,7 @@
--- `vayemuku::vayemuku_rank_keys` meets its contract: each way out is what its questions and its calls say. Assumes nothing.
+-- `vayemuku::vayemuku_rank_keys` meets its contract: each way out is what its questions and its calls say.
 use mathlib.Core.Path.{_∙_}
 use borrow.Author.Needs.{needs}
-use Rattle.folds.proofs.Columns.{same-blank}
+use Rattle.folds.proofs.Writing.{same-blank}
 use Rattle.vayemuku.proofs.Answers.{keys-too-long, keys-wrong, keys-fine}
 use Rattle.vayemuku.proofs.vayemuku_rank_keys.Statement.{statement}
 use Rattle.vayemuku.proofs.vayemuku_rank_keys.Tie as tie

@@ -1,4 +1,4 @@
--- `vayemuku::vayemuku_score_rows` meets its contract: the number and the columns of what the call answers. Assumes nothing.
+-- `vayemuku::vayemuku_score_rows` meets its contract: the number and the columns of what the call answers.
 use mathlib.Core.Path.{ap, _∙_}
 use borrow.Author.Needs.{needs}
 use Rattle.columns.specs.Refusals.{outcomeNumber}

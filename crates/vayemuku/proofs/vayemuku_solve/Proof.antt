@@ -1,4 +1,4 @@
--- `vayemuku::vayemuku_solve` meets its contract: the number and the numbers of what the call answers. Assumes nothing.
+-- `vayemuku::vayemuku_solve` meets its contract: the number and the numbers of what the call answers.
 use mathlib.Core.Path.{ap, _∙_}
 use Rattle.gauss.specs.Solutions.{solvedNumber}
 use Rattle.gauss.specs.declared.Solution.{Solution}

@@ -1,4 +1,4 @@
--- `vayemuku::vayemuku_spectrum_q_value` meets its contract: the number and the count of what the call answers. Assumes nothing.
+-- `vayemuku::vayemuku_spectrum_q_value` meets its contract: the number and the count of what the call answers.
 use mathlib.Core.Path.{ap, _∙_}
 use borrow.Author.Needs.{needs}
 use Rattle.columns.specs.Refusals.{countedNumber, countedCount}

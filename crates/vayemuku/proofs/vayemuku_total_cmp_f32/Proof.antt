@@ -1,4 +1,4 @@
--- `vayemuku::vayemuku_total_cmp_f32` meets its contract: the number of the order that `total_cmp_f32` finds. Assumes nothing.
+-- `vayemuku::vayemuku_total_cmp_f32` meets its contract: the number of the order that `total_cmp_f32` finds.
 use Rattle.vayemuku.proofs.Answers.{sign-back}
 use Rattle.vayemuku.proofs.vayemuku_total_cmp_f32.Statement.{statement}
 use Rattle.vayemuku.proofs.vayemuku_total_cmp_f32.Tie as tie

@@ -1,4 +1,4 @@
--- `vayemuku::vayemuku_total_cmp_f64` meets its contract: the number of the order that `total_cmp_f64` finds. Assumes nothing.
+-- `vayemuku::vayemuku_total_cmp_f64` meets its contract: the number of the order that `total_cmp_f64` finds.
 use Rattle.vayemuku.proofs.Answers.{sign-back}
 use Rattle.vayemuku.proofs.vayemuku_total_cmp_f64.Statement.{statement}
 use Rattle.vayemuku.proofs.vayemuku_total_cmp_f64.Tie as tie

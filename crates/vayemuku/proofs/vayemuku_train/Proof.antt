@@ -1,4 +1,4 @@
--- `vayemuku::vayemuku_train` meets its contract: the number and the coefficients of what the call answers. Assumes nothing.
+-- `vayemuku::vayemuku_train` meets its contract: the number and the coefficients of what the call answers.
 use mathlib.Core.Path.{ap, _∙_}
 use Rattle.linear_discriminant.specs.Fit.{trainedNumber}
 use Rattle.linear_discriminant.specs.declared.Model.{Model}

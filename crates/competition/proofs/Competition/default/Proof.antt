@@ -1,4 +1,4 @@
--- `competition::Competition::default` meets its contract: the literal is f32::MIN. Assumes nothing.
+-- `competition::Competition::default` meets its contract: the literal is f32::MIN.
 use mathlib.Core.Path.{refl}
 use Rattle.competition.proofs.Competition.default.Statement.{statement}
 use Rattle.competition.proofs.Competition.default.Tie as tie

@@ -1,4 +1,4 @@
--- `competition::Competition::is_decoy` meets its contract: its comparison is the definition's. Assumes nothing.
+-- `competition::Competition::is_decoy` meets its contract: its comparison is the definition's.
 use mathlib.Core.Path.{refl}
 use Rattle.competition.proofs.Competition.is_decoy.Statement.{statement}
 use Rattle.competition.proofs.Competition.is_decoy.Tie as tie

@@ -1,4 +1,4 @@
--- `competition::Competition::raise_forward` meets its contract: what `max_f32` ensures. Assumes nothing.
+-- `competition::Competition::raise_forward` meets its contract: what `max_f32` ensures.
 use borrow.Author.Needs.{needs}
 use Rattle.competition.proofs.Competition.raise_forward.Statement.{statement}
 use Rattle.competition.proofs.Competition.raise_forward.Tie as tie

@@ -1,4 +1,4 @@
--- `competition::Competition::raise_reverse` meets its contract: what `max_f32` ensures. Assumes nothing.
+-- `competition::Competition::raise_reverse` meets its contract: what `max_f32` ensures.
 use borrow.Author.Needs.{needs}
 use Rattle.competition.proofs.Competition.raise_reverse.Statement.{statement}
 use Rattle.competition.proofs.Competition.raise_reverse.Tie as tie

@@ -1,4 +1,4 @@
--- `competition::Competition::score` meets its contract: what `max_f32` ensures. Assumes nothing.
+-- `competition::Competition::score` meets its contract: what `max_f32` ensures.
 use borrow.Author.Needs.{needs}
 use Rattle.competition.proofs.Competition.score.Statement.{statement}
 use Rattle.competition.proofs.Competition.score.Tie as tie

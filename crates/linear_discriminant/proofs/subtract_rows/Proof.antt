@@ -1,13 +1,13 @@
--- `linear_discriminant::less` meets its contract: a column written from the front. Assumes nothing.
+-- `linear_discriminant::subtract_rows` meets its contract: a column written from the front.
 use mathlib.Core.Path.{refl}
 use Prim.Native.Nat.{_-_}
 use lib.ListN.{getD}
 use lib.Ieee.{nan, binary64, sub}
 use borrow.Author.Needs.{needs}
-use Rattle.folds.proofs.Columns.{Writing, writing-start, writing-step, writing-done}
-use Rattle.linear_discriminant.specs.Passes.{lessRow}
-use Rattle.linear_discriminant.proofs.less.Statement.{statement}
-use Rattle.linear_discriminant.proofs.less.Tie as tie
+use Rattle.folds.proofs.Writing.{Writing, writing-start, writing-step, writing-done}
+use Rattle.linear_discriminant.specs.Passes.{rowDifference}
+use Rattle.linear_discriminant.proofs.subtract_rows.Statement.{statement}
+use Rattle.linear_discriminant.proofs.subtract_rows.Tie as tie
 
 abbrev Inv-loop : tie.InvT-loop
 Inv-loop a b row₀ j₀ row j = Writing (λ j. sub binary64 (getD a j nan) (getD b j nan)) nan 20 row j
@@ -22,11 +22,11 @@ loop-again : tie.Need-loop-again Inv-loop μ-loop
 loop-again c = writing-step (c .before .before .before .loop .inv) (search needs) refl
 
 returns : tie.Need-returns Inv-loop μ-loop
-unfolding lessRow
+unfolding rowDifference
 returns c = writing-done (c .before .loop .inv) (search needs)
 
-pub less-spec : {M : Type 1} → statement M
-less-spec =
+pub subtract-rows-spec : {M : Type 1} → statement M
+subtract-rows-spec =
     tie.close
     (tie.spec
     Inv-loop

@@ -1,5 +1,5 @@
 -- Loops over columns, as records whose parameters are inferred: a list that is folded from the front, and the running maximum from the
--- back. Assumes nothing.
+-- back.
 use mathlib.Core.Path.{_≡_, refl, sym, ap, _∙_}
 use mathlib.Core.List.{List, [], _∷_, _++_, append-assoc, append-nil, map}
 use Prim.Native.Nat.{ℕ, zero, suc, _+_, _≤_, _<_, zero-le}
@@ -9,8 +9,8 @@ use native.Mathlib.Omega.{arith}
 use lib.ListN.{length, getD, take, drop, set, length-set}
 use lib.Seq.{take-length, take-suc, drop-cons, drop-length, set-at, getD-at, length-take-le}
 use lib.Ieee.{Float, nan}
-use Rattle.folds.specs.Columns.{tabulated}
-use Rattle.floats.specs.Least.{greater}
+use Rattle.folds.specs.Lists.{tabulated}
+use Rattle.floats.specs.MinMax.{maxNumber}
 use Rattle.kde.specs.Bins.{folded, raisedFrom}
 
 -- ---- tabulated with a function of the element, at each place of a list
@@ -71,7 +71,7 @@ raising-start start column = record {
 }
 
 pub raising-step : {start : Float} {column₀ column : List Float} {i : ℕ} {most : Float} (j : ℕ) (v : Float)
-    → Raising start column₀ column i most → i ≡ j + 1 → v ≡ greater most (getD column j nan) → Raising start column₀ (set column j v) j v
+    → Raising start column₀ column i most → i ≡ j + 1 → v ≡ maxNumber most (getD column j nan) → Raising start column₀ (set column j v) j v
 unfolding raisedFrom
 raising-step {start} {column₀} {column} {i} {most} j v w e g =
     let h = w .high in
@@ -85,8 +85,8 @@ raising-step {start} {column₀} {column} {i} {most} j v w e g =
     ∙ append-assoc (take j column₀) (getD column₀ j nan ∷ []) done in
     let long : length (take j column₀) ≡ j = length-take-le j column₀ (omega arith) in
     let seen : getD column j nan ≡ getD column₀ j nan = ap (λ (t : List Float). getD t j nan) split ∙ getD-at (take j column₀) (getD column₀ j nan) done nan j long in
-    let v-is : v ≡ greater (getD done 0 start) (getD column₀ j nan) =
-    g ∙ ap (greater most) seen ∙ ap (λ (x : Float). greater x (getD column₀ j nan)) (w .first ∙ ap (λ (x : ℕ). getD (raisedFrom start (drop x column₀)) 0 start) i-is) in
+    let v-is : v ≡ maxNumber (getD done 0 start) (getD column₀ j nan) =
+    g ∙ ap (maxNumber most) seen ∙ ap (λ (x : Float). maxNumber x (getD column₀ j nan)) (w .first ∙ ap (λ (x : ℕ). getD (raisedFrom start (drop x column₀)) 0 start) i-is) in
     let whole : raisedFrom start (drop j column₀) ≡ v ∷ done =
     ap (raisedFrom start) (drop-cons column₀ j nan l) ∙ ap (λ (x : Float). x ∷ done) (sym v-is) in
     record {

@@ -4,15 +4,15 @@ use mathlib.Core.Bool.{cond}
 use lib.Ieee.{Float, nan, inf, fin, lt}
 
 -- the other where one is a NaN; the second where it is less; and the first
-unfoldable pub lesser : Float → Float → Float
+unfoldable pub minNumber : Float → Float → Float
 unfolding lt
-lesser nan b = b
-lesser (inf s) b = cond (lt b (inf s)) b (inf s)
-lesser (fin s m e) b = cond (lt b (fin s m e)) b (fin s m e)
+minNumber nan b = b
+minNumber (inf s) b = cond (lt b (inf s)) b (inf s)
+minNumber (fin s m e) b = cond (lt b (fin s m e)) b (fin s m e)
 
 -- the other where one is a NaN; the second where it is greater; and the first
-unfoldable pub greater : Float → Float → Float
+unfoldable pub maxNumber : Float → Float → Float
 unfolding lt
-greater nan b = b
-greater (inf s) b = cond (lt (inf s) b) b (inf s)
-greater (fin s m e) b = cond (lt (fin s m e) b) b (fin s m e)
+maxNumber nan b = b
+maxNumber (inf s) b = cond (lt (inf s) b) b (inf s)
+maxNumber (fin s m e) b = cond (lt (fin s m e) b) b (fin s m e)

@@ -1,5 +1,5 @@
 -- The two passes over a column of q-values. Forwards each place gets its row's ratio; backwards each place gets the least of 1.0 and what
--- stood there and after it, and those at most c are counted. Assumes nothing.
+-- stood there and after it, and those at most c are counted.
 use mathlib.Core.Path.{_≡_, refl, sym, subst, _∙_}
 use mathlib.Core.List.{List, [], _∷_}
 use mathlib.Core.Bool.{Bool, true, false, not, cond}
@@ -13,10 +13,10 @@ use lib.ListN.{length, take, drop, set, getD, length-set, length-drop}
 use lib.Seq.{take-suc, take-suc-set, take-all, take-set-le, take-take, lt-length-set, drop-set-lt, drop-cons, drop-length, getD-take, getD-set-same}
 use lib.Ieee.{Float, nan, binary32, ofBits, isNan, le}
 use mir.Val.{boolByte}
-use Rattle.floats.specs.Least.{lesser}
-use Rattle.counting.specs.QValues.{ratio, ratioAt, ratios, lowest, lows, atMost}
+use Rattle.floats.specs.MinMax.{minNumber}
+use Rattle.counting.specs.QValues.{ratio, ratioAt, ratios, minimum, runningMinimum, atMost}
 use Rattle.counting.proofs.QValues.{length-ratios, ratios-at}
-use Rattle.counting.proofs.Lowest.{lowest-number, length-lows}
+use Rattle.counting.proofs.RunningMinimum.{minimum-number, length-running-minimum}
 use Rattle.counting.proofs.Tally.{Tally, tally-start}
 
 -- ---- forwards
@@ -48,17 +48,17 @@ rated-done {labels} {q} {decoy} {target} {i} r h =
 
 -- ---- backwards
 
-pub record Lowered (c : Float) (rs q : List Float) (low : Float) (passing i : ℕ) : Type 0 where
+pub record MinimumWalk (c : Float) (rs q : List Float) (low : Float) (passing i : ℕ) : Type 0 where
   pub high : i ≤ length rs
   pub same : length q ≡ length rs
   pub front : take i q ≡ take i rs
-  pub back : drop i q ≡ lows (drop i rs)
-  pub low-is : low ≡ lowest (drop i rs)
-  pub passing-is : passing ≡ atMost c (lows (drop i rs))
+  pub back : drop i q ≡ runningMinimum (drop i rs)
+  pub low-is : low ≡ minimum (drop i rs)
+  pub passing-is : passing ≡ atMost c (runningMinimum (drop i rs))
 
-pub lowered-start : {c : Float} {rs : List Float} → Lowered c rs rs (ofBits binary32 0x3F800000) 0 (length rs)
-unfolding lowest lows atMost
-lowered-start {c} {rs} = record {
+pub minimum-walk-start : {c : Float} {rs : List Float} → MinimumWalk c rs rs (ofBits binary32 0x3F800000) 0 (length rs)
+unfolding minimum runningMinimum atMost
+minimum-walk-start {c} {rs} = record {
   high = le-refl (length rs);
   same = refl;
   front = refl;
@@ -67,17 +67,17 @@ lowered-start {c} {rs} = record {
   passing-is = rw drop-length;
 }
 
-pub lowered-number : {c : Float} {rs q : List Float} {low : Float} {passing i : ℕ} → Lowered c rs q low passing i → T (not (isNan low))
-lowered-number {rs = rs} {i = i} w = rw (w .low-is) (lowest-number (drop i rs))
+pub minimum-walk-number : {c : Float} {rs q : List Float} {low : Float} {passing i : ℕ} → MinimumWalk c rs q low passing i → T (not (isNan low))
+minimum-walk-number {rs = rs} {i = i} w = rw (w .low-is) (minimum-number (drop i rs))
 
 at-most-bit : (b : Bool) (n : ℕ) → n + boolByte b ≡ cond b (suc n) n
 at-most-bit true n = omega arith
 at-most-bit false n = omega arith
 
-pub lowered-next : {c : Float} {rs q : List Float} {low low′ : Float} {passing i : ℕ} (j : ℕ) → i ≡ j + 1 → Lowered c rs q low passing i
-    → low′ ≡ lesser low (getD q j nan) → Lowered c rs (set q j low′) low′ (passing + boolByte (le low′ c)) j
-unfolding lowest lows atMost
-lowered-next {c} {rs} {q} {low} {low′} {passing} {i} j e w n =
+pub minimum-walk-next : {c : Float} {rs q : List Float} {low low′ : Float} {passing i : ℕ} (j : ℕ) → i ≡ j + 1 → MinimumWalk c rs q low passing i
+    → low′ ≡ minNumber low (getD q j nan) → MinimumWalk c rs (set q j low′) low′ (passing + boolByte (le low′ c)) j
+unfolding minimum runningMinimum atMost
+minimum-walk-next {c} {rs} {q} {low} {low′} {passing} {i} j e w n =
     let h = w .high in
     let r = getD rs j nan in
     let l : j < length rs = omega arith in
@@ -85,7 +85,7 @@ lowered-next {c} {rs} {q} {low} {low′} {passing} {i} j e w n =
     let s : suc j ≡ i = omega arith in
     let p : drop j rs ≡ r ∷ drop i rs = rw (drop-cons rs j nan l, s) in
     let g : getD q j nan ≡ r = sym (getD-take i q j nan (omega arith)) ∙ rw (w .front) (getD-take i rs j nan (omega arith)) in
-    let m : low′ ≡ lesser (lowest (drop i rs)) r = n ∙ rw (w .low-is, g) in
+    let m : low′ ≡ minNumber (minimum (drop i rs)) r = n ∙ rw (w .low-is, g) in
     record {
       high = omega arith;
       same = length-set q j low′ ∙ w .same;
@@ -93,14 +93,14 @@ lowered-next {c} {rs} {q} {low} {low′} {passing} {i} j e w n =
       back = rw (drop-cons (set q j low′) j nan (lt-length-set q j low′ l′), getD-set-same q j low′ nan l′)
           (rw (drop-set-lt (suc j) q j low′ (le-refl (suc j)), s, w .back, p, m));
       low-is = rw p m;
-      passing-is = rw (p, ← m, w .passing-is) (at-most-bit (le low′ c) (atMost c (lows (drop i rs))));
+      passing-is = rw (p, ← m, w .passing-is) (at-most-bit (le low′ c) (atMost c (runningMinimum (drop i rs))));
     }
 
-pub lowered-done : {c : Float} {rs q : List Float} {low : Float} {passing i : ℕ} → Lowered c rs q low passing i → i ≤ 0
-    → (passing ≡ atMost c (lows rs)) × (q ≡ lows rs)
-lowered-done {c} {rs} {q} {low} {passing} {i} w h =
+pub minimum-walk-done : {c : Float} {rs q : List Float} {low : Float} {passing i : ℕ} → MinimumWalk c rs q low passing i → i ≤ 0
+    → (passing ≡ atMost c (runningMinimum rs)) × (q ≡ runningMinimum rs)
+minimum-walk-done {c} {rs} {q} {low} {passing} {i} w h =
     let z : i ≡ 0 = omega arith in
-    (subst (λ (n : ℕ). passing ≡ atMost c (lows (drop n rs))) z (w .passing-is), subst (λ (n : ℕ). drop n q ≡ lows (drop n rs)) z (w .back))
+    (subst (λ (n : ℕ). passing ≡ atMost c (runningMinimum (drop n rs))) z (w .passing-is), subst (λ (n : ℕ). drop n q ≡ runningMinimum (drop n rs)) z (w .back))
 
 -- no more than the column has places
 at-most-within : (c : Float) (qs : List Float) → atMost c qs ≤ length qs
@@ -112,7 +112,7 @@ at-most-within c (q ∷ qs) = go (le q c) (at-most-within c qs)
     go true h = omega arith
     go false h = omega arith
 
-pub lowered-within : {c : Float} {rs q : List Float} {low : Float} {passing i : ℕ} → Lowered c rs q low passing i → passing + i ≤ length rs
-lowered-within {c} {rs} {q} {low} {passing} {i} w =
+pub minimum-walk-bound : {c : Float} {rs q : List Float} {low : Float} {passing i : ℕ} → MinimumWalk c rs q low passing i → passing + i ≤ length rs
+minimum-walk-bound {c} {rs} {q} {low} {passing} {i} w =
     let h = w .high in
-    omega (arith, w .passing-is, at-most-within c (lows (drop i rs)), length-lows (drop i rs), length-drop i rs)
+    omega (arith, w .passing-is, at-most-within c (runningMinimum (drop i rs)), length-running-minimum (drop i rs), length-drop i rs)

@@ -1,4 +1,4 @@
--- Columns that a loop writes from the front or from the back, one place a turn. Assumes nothing.
+-- Columns that a loop writes from the front or from the back, one place a turn.
 use mathlib.Core.Path.{_≡_, refl, sym, ap, _∙_, subst}
 use mathlib.Core.Logic.{_⊎_, inl, inr}
 use mathlib.Core.List.{List, [], _∷_, _++_, map, append-assoc}
@@ -13,7 +13,7 @@ use lib.Seq.{take-suc-set, getD-set-same, getD-set-other, ext-getD}
 use borrow.Author.Count.{below-more}
 use borrow.Author.Tests.{lt-ltb, le-ltb}
 use Rattle.folds.proofs.Tests.{lt-or-ge}
-use Rattle.folds.specs.Columns.{filled, tabulated, All}
+use Rattle.folds.specs.Lists.{filled, tabulated, All}
 
 -- columns of one length have one blank
 pub same-blank : {A : Type 0} (v : A) (c d : List A) → length c ≡ length d → filled v c ≡ filled v d

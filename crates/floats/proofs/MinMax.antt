@@ -1,12 +1,12 @@
 -- The lesser and the greater of two floats as the code finds them: first by `<`, then by the test for a NaN.
--- Only the NaN differs from itself, so the second test picks out the first clause of the definition. Assumes nothing.
+-- Only the NaN differs from itself, so the second test picks out the first clause of the definition.
 use mathlib.Core.Path.{_≡_, refl}
 use mathlib.Core.Bool.{true, false, not, cond}
 use Prim.Native.Nat.{_*_}
 use borrow.Author.Tests.{eq-eqb}
 use lib.Dec.{T}
 use lib.Ieee.{Float, nan, inf, fin, lt, ne, isNan, up, down}
-use Rattle.floats.specs.Least.{lesser, greater}
+use Rattle.floats.specs.MinMax.{minNumber, maxNumber}
 
 -- x != x tests for the NaN
 pub ne-self : (x : Float) → ne x x ≡ isNan x
@@ -27,14 +27,14 @@ lt-nan nan = refl
 lt-nan (inf s) = refl
 lt-nan (fin s m e) = refl
 
-pub lesser-is : (a b : Float) → lesser a b ≡ cond (lt b a) b (cond (ne a a) b a)
-unfolding lesser isNan
-lesser-is nan b = rw (lt-nan, ne-self)
-lesser-is (inf s) b = rw ne-self
-lesser-is (fin s m e) b = rw ne-self
+pub min-is : (a b : Float) → minNumber a b ≡ cond (lt b a) b (cond (ne a a) b a)
+unfolding minNumber isNan
+min-is nan b = rw (lt-nan, ne-self)
+min-is (inf s) b = rw ne-self
+min-is (fin s m e) b = rw ne-self
 
-pub greater-is : (a b : Float) → greater a b ≡ cond (lt a b) b (cond (ne a a) b a)
-unfolding greater isNan lt
-greater-is nan b = rw ne-self
-greater-is (inf s) b = rw ne-self
-greater-is (fin s m e) b = rw ne-self
+pub max-is : (a b : Float) → maxNumber a b ≡ cond (lt a b) b (cond (ne a a) b a)
+unfolding maxNumber isNan lt
+max-is nan b = rw ne-self
+max-is (inf s) b = rw ne-self
+max-is (fin s m e) b = rw ne-self
