@@ -2,51 +2,73 @@
 SHELL := /bin/bash
 .SHELLFLAGS := -euo pipefail -c
 .DEFAULT_GOAL := help
+.NOTPARALLEL:
 
 # cargo reads compare/.cargo/config.toml only from there
 COMPARE := cd compare && cargo run --quiet --release --offline --
+CLIPPY := cargo clippy --quiet --all-targets
 
 # the crates under `vayemuku`
 CRATES := $(shell sed -n 's/^vayemuku: *\([^\#]*\).*/\1/p' crates.txt)
 
-.PHONY: help test lib host run mutants compare record bench prepare
+LIBRARY := target/staticlib/libvayemuku.a
+
+# a sum over all that the library is proved from: the toolchain, and the files of its crates
+SUM = { rt version && cat crates.txt && find $(patsubst %,crates/%,$(CRATES) vayemuku) -type f \
+	! -path '*/must-fail/*' ! -path '*/wrong/*' -print0 | sort -z | xargs -0 sha256sum; } | sha256sum
+
+# stops where a command is not on the PATH
+need = @command -v $(1) >/dev/null || { echo "make: $(2) is not on the PATH" >&2; exit 1; }
+
+.PHONY: help test lint lib host run mutants compare record bench prepare layout proved-lib need-rt need-cargo need-python3
 help: ## this list
 	@grep -E '^[a-z]+:.*## ' $(MAKEFILE_LIST) | sed -E 's/^([a-z]+):.*## /\1\t/' | expand -t 12
 
-test: ## host's tests; then prove every crate from nothing, try every must-fail edit, run every program; ends in 'N passed, 0 failed'
-	@command -v rt >/dev/null || { echo "make: the Rattle toolchain's command rt is not on the PATH" >&2; exit 1; }
+test: need-rt need-cargo ## layout and host's tests; then prove every crate from nothing, try every must-fail edit, run every program; ends in 'N passed, 0 failed'
 	docs/check
-	rt fmt --check
+	$(MAKE) --no-print-directory layout
 	$(MAKE) --no-print-directory host
 	rt ci
 
-lib: ## target/staticlib/libvayemuku.a, to link with include/vayemuku.h
-	@command -v rt >/dev/null || { echo "make: the Rattle toolchain's command rt is not on the PATH" >&2; exit 1; }
+lint: layout prepare lib ## layout, line widths and words of all sources, and clippy of host/ and compare/
+	cd host && $(CLIPPY) -- -D warnings
+	cd compare && $(CLIPPY) --offline -- -D warnings
+
+# the part of lint that neither builds nor proves anything
+layout: need-rt need-cargo
+	rt fmt --check
+	cd host && cargo fmt --all --check
+	cd compare && cargo fmt --check
+	.ci/lint
+
+lib: need-rt ## target/staticlib/libvayemuku.a, to link with include/vayemuku.h; proved only where something has changed
+	@[ -f $(LIBRARY) ] && [ "$$($(SUM))" = "$$(cat $(LIBRARY).sum 2>&1)" ] || $(MAKE) --no-print-directory proved-lib
+	@echo "$(LIBRARY), declared by include/vayemuku.h"
+
+proved-lib:
+	@mkdir -p $(dir $(LIBRARY)) && rm -f $(LIBRARY).sum && $(SUM) >$(LIBRARY).proving
 	rt check $(CRATES)
 	rt staticlib vayemuku
-	@echo "target/staticlib/libvayemuku.a, declared by include/vayemuku.h"
+	@mv $(LIBRARY).proving $(LIBRARY).sum
 
-host: lib ## the tests and the documents of host/; the examples of README.md in C and Rust, and what it shows of make run
-	@command -v cargo >/dev/null || { echo "make: cargo is not on the PATH" >&2; exit 1; }
+host: need-cargo lib ## clippy, the tests and the documents of host/; the examples of README.md in C and Rust, and what it shows of make run
+	cd host && $(CLIPPY) -- -D warnings
 	cd host && cargo test --quiet
 	cd host && RUSTDOCFLAGS='-D warnings' cargo doc --quiet --no-deps
 	cd host && cargo build --quiet --release
 	host/readme-check
 
-run: lib ## two sample batches, made and rescored: one goes well, and one is refused
-	@command -v cargo >/dev/null || { echo "make: cargo is not on the PATH" >&2; exit 1; }
+run: need-cargo lib ## two sample batches, made and rescored: one succeeds, and one is refused
 	cd host && cargo build --quiet --release
 	@host/run-sample
 
-mutants: ## wrong programs: the edits of crates/*/wrong and one-token edits of the code, which the prover must refuse; an hour or more
-	@command -v python3 >/dev/null || { echo "make: python3 is not on the PATH" >&2; exit 1; }
+mutants: need-python3 ## wrong programs: the edits of crates/*/wrong and one-token edits of the code, which the prover must refuse; an hour or more
 	mutants/run
 
-prepare: ## what compare and bench need: Debian's packaged crates, and sage's unchanged files, checked, under target/sage
-	@command -v cargo >/dev/null || { echo "make: cargo is not on the PATH" >&2; exit 1; }
+prepare: need-cargo ## what compare and bench need: Debian's packaged crates, and sage's unchanged files, checked, under target/sage
 	compare/prepare
 
-compare: lib prepare ## the port beside sage's unchanged Rust and Rust's own operators, by bits; fails on one mismatch
+compare: prepare lib ## the port beside sage's unchanged Rust and Rust's own operators, by bits; fails on one mismatch
 	$(COMPARE) smoke
 	$(COMPARE) differences
 	$(COMPARE) floats
@@ -58,12 +80,21 @@ compare: lib prepare ## the port beside sage's unchanged Rust and Rust's own ope
 	host/run-sample >/dev/null
 	$(COMPARE) sample ../target/sample/{good,good.list,refused}.tsv
 
-record: lib prepare ## answers of sage's unchanged Rust that the programs replay_* read, made again: crates/replay_*/data
+record: prepare lib ## answers of sage's unchanged Rust that the programs replay_* read, made again: crates/replay_*/data
 	$(COMPARE) record ../crates
 
-bench: lib prepare ## the port and the Rust timed in one driver, with ratios
+bench: prepare lib ## the port and the Rust timed in one driver, with ratios
 	$(COMPARE) bench floats
 	$(COMPARE) bench counting
 	$(COMPARE) bench fit
 	$(COMPARE) bench kde
 	$(COMPARE) bench fdr
+
+need-rt:
+	$(call need,rt,the Rattle toolchain's command rt)
+
+need-cargo:
+	$(call need,cargo,cargo)
+
+need-python3:
+	$(call need,python3,python3)

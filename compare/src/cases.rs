@@ -153,7 +153,7 @@ pub fn boundaries<F: Float>(step: usize) -> Vec<F> {
     patterns.iter().flat_map(|&p| [F::of(p), F::of(p | F::SIGN)]).collect()
 }
 
-/// A float from 2^k to 2^(k+1) whose fraction is nothing, a half, or one place beside a whole number or a half, by
+/// A float from 2^k to 2^(k+1) whose fraction is 0, a half, or one place beside a whole number or a half, by
 /// `choice` under 6.
 fn near_whole<F: Float>(sign: u64, k: u64, whole: u64, choice: u64) -> F {
     let unit = 1u64 << F::DIGITS.saturating_sub(k as u32);
@@ -202,7 +202,7 @@ pub fn partner<F: Float>(random: &mut Random, first: F) -> F {
     }
 }
 
-/// Hands `check` every boundary, then as many random floats as planned, then every f32 where that is planned.
+/// Calls `check` with every boundary, then with the planned number of random floats, then with every f32 where planned.
 pub fn each_single<F: Float>(plan: &Plan, mut check: impl FnMut(F)) {
     single_boundaries().into_iter().for_each(&mut check);
     let mut random = Random::new(1);
@@ -214,7 +214,7 @@ pub fn each_single<F: Float>(plan: &Plan, mut check: impl FnMut(F)) {
     }
 }
 
-/// Hands `check` all pairs of a list of boundaries, then as many random pairs as planned.
+/// Calls `check` with all pairs of a list of boundaries, then with the planned number of random pairs.
 pub fn each_pair<F: Float>(plan: &Plan, mut check: impl FnMut(F, F)) {
     let list = boundaries::<F>(if F::DIGITS == 23 { 1 } else { 8 });
     for &a in &list {

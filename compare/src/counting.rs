@@ -17,7 +17,7 @@ use spectrum::Spectrum;
 /// Every pattern of decoys and targets is tried up to this length.
 const EVERY: usize = 14;
 
-/// Targets before every pattern of up to `BEHIND` labels: short lists with rows at one in 20 or 100 and beside.
+/// Targets before every pattern of up to `BEHIND` labels: short lists with rows at and just beside one in 20 or 100.
 /// No row qualifies in a list of fewer than 20 targets.
 const HEADS: [usize; 8] = [19, 20, 37, 40, 98, 100, 197, 200];
 const BEHIND: usize = 8;
@@ -25,7 +25,7 @@ const BEHIND: usize = 8;
 /// The bare ranking is tried on every length under this.
 const LENGTHS: usize = 1_000;
 
-/// Compares every call on as many random lists, and says whether nothing differed.
+/// Compares every call on `lists` random lists, and says whether nothing differed.
 pub fn run(lists: u64) -> bool {
     let same = [spectrum_and_lines(lists), precursors::run(lists.div_ceil(10)), keys::run(LENGTHS)];
     same.iter().all(|same| *same)
@@ -85,7 +85,7 @@ fn expect_passing(q: &[f32], rate: f32, passes: impl Fn(usize) -> bool) -> Resul
 }
 
 /// A list in a report: its labels, or where it is long its runs of targets (T) and decoys (D).
-fn told(labels: &[i32]) -> String {
+fn described(labels: &[i32]) -> String {
     if labels.len() <= EVERY {
         return format!("{labels:?}");
     }

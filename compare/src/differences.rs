@@ -16,9 +16,10 @@ pub fn run() -> bool {
     lines.iter().all(|same| *same)
 }
 
-/// Prints what both sides gave, and what they should have where that is something else. Answers are held by how Rust
-/// writes them, which tells zeros apart and every NaN alike; where Rust leaves one open, two stand with "or" between.
-fn part(input: &str, (sage, wanted): (impl Debug, &str), (port, ruled): (impl Debug, &str)) -> bool {
+/// Prints the answers of both sides, and the expected ones where they are different. Answers are compared as Rust
+/// writes them: the zeros differ, and all NaNs are the same. Where Rust leaves an answer open, two are given with "or"
+/// between.
+fn check(input: &str, (sage, wanted): (impl Debug, &str), (port, ruled): (impl Debug, &str)) -> bool {
     let (sage, port) = (format!("{sage:?}"), format!("{port:?}"));
     let same = [(&sage, wanted), (&port, ruled)].map(|(got, wanted)| wanted.split(" or ").any(|one| one == got));
     let should = if same == [true; 2] { String::new() } else { format!(", and it should be {wanted} and {ruled}") };
@@ -30,7 +31,7 @@ fn part(input: &str, (sage, wanted): (impl Debug, &str), (port, ruled): (impl De
 #[derive(Clone, Copy, Debug)]
 struct Panicked;
 
-/// The answer, unless the call panics, which is then not told on standard error.
+/// The answer, unless the call panics; the panic is then not printed.
 fn unless_it_panics<T>(call: impl FnOnce() -> T) -> Result<T, Panicked> {
     let hook = take_hook();
     set_hook(Box::new(|_| {}));

@@ -2,20 +2,20 @@
 //! of document 01.
 
 mod beside_sage;
+mod buffers;
 pub mod draws;
-pub mod host;
-mod lent;
 mod longest;
 pub mod picked;
 pub mod reading;
 mod refusals;
+pub mod runs;
 pub mod tables;
 
 use crate::cases::Random;
 use crate::report::Tally;
 use sage_core::ml::kde::on_rayons_thread;
 
-/// For so many tables there is one list that goes through all calls.
+/// The number of tables for each list that goes through all calls.
 const TABLES_PER_RUN: u64 = 50;
 
 /// A tally of each call, of the bins that the calls of module 4 make of winners, and of runs of all calls.
@@ -29,7 +29,7 @@ struct Calls {
     whole_runs: Tally,
 }
 
-/// Compares every call on as many random tables of either sort, and says whether nothing differed.
+/// Compares every call on `tables` random tables of either sort, and says whether nothing differed.
 pub fn run(tables: u64) -> bool {
     // Called from another thread, each kernel sum of sage's would wait for rayon's.
     on_rayons_thread(|| {
@@ -37,7 +37,7 @@ pub fn run(tables: u64) -> bool {
         calls.points();
         calls.beside_sage(tables);
         calls.tied(tables);
-        calls.host(tables.div_ceil(TABLES_PER_RUN));
+        calls.whole_runs(tables.div_ceil(TABLES_PER_RUN));
         calls.longest();
         calls.refusals();
         calls.print()

@@ -6,18 +6,18 @@ mod solve;
 pub mod systems;
 pub mod train;
 
+use crate::calls::Row;
 use crate::cases::Random;
 use crate::lists::{label, LONGEST};
 use crate::sage::room_for;
-use crate::vayemuku::fit::Row;
 use score::Scores;
 use systems::moderate;
 use train::Fits;
 
-/// What a row takes while both sides work on it: its features, its label, sage's mark of a decoy, and both scores.
+/// The memory for a row: its features, its label, sage's mark of a decoy, and both scores.
 const ROW_BYTES: usize = size_of::<Row>() + 20;
 
-/// How many random systems and fits there are; as many scoring runs as fits.
+/// The numbers of random systems and of random fits; there are as many scoring runs as fits.
 pub struct Plan {
     systems: u64,
     fits: u64,

@@ -2,8 +2,8 @@
 
 use crate::cases::{each_pair, each_single, Float, Plan};
 use crate::report::{Answer, Tally};
-use crate::vayemuku::*;
 use std::cmp::Ordering;
+use vayemuku_sys::*;
 
 /// Compares every function, and says whether nothing differed.
 pub fn run(plan: &Plan) -> bool {
@@ -40,7 +40,7 @@ fn f32_order(a: f32, b: f32) -> Ordering {
     f32::of(a.canonical()).total_cmp(&f32::of(b.canonical()))
 }
 
-/// The lesser of two, the first where they are equal; a NaN is ignored.
+/// The smaller of two, the first where they are equal; a NaN is ignored.
 pub fn first_least<F: Float>(a: F, b: F) -> F {
     if a.partial_cmp(&a).is_none() || b < a {
         b
@@ -49,7 +49,7 @@ pub fn first_least<F: Float>(a: F, b: F) -> F {
     }
 }
 
-/// The greater of two, the first where they are equal; a NaN is ignored.
+/// The larger of two, the first where they are equal; a NaN is ignored.
 pub fn first_greatest<F: Float>(a: F, b: F) -> F {
     if a.partial_cmp(&a).is_none() || b > a {
         b
@@ -58,7 +58,7 @@ pub fn first_greatest<F: Float>(a: F, b: F) -> F {
     }
 }
 
-/// What a mismatch of a function of two floats prints.
+/// The words of a mismatch of a function of two floats.
 fn describe<F: Float, R: Answer>(a: F, b: F, port: R, rust: R) -> String {
     format!("({}, {}) port {} Rust {}", a.hex(), b.hex(), port.hex(), rust.hex())
 }
@@ -127,7 +127,7 @@ fn keys<F: Float, K: Answer + Ord>(
     };
     each_pair(plan, &mut check);
     if plan.exhaustive && F::DIGITS == 23 {
-        // Each pattern against the next of its sign: with the pairs of boundaries, that fixes the order of all.
+        // Each pattern with the next of its sign: together with the pairs of boundaries, that fixes the order of all.
         (0..F::SIGN - 1).for_each(|pattern| check(F::of(pattern), F::of(pattern + 1)));
         (F::SIGN..2 * F::SIGN - 1).for_each(|pattern| check(F::of(pattern), F::of(pattern + 1)));
     }

@@ -1,10 +1,10 @@
 //! Module 4, the density estimator without its kernel: beside sage's unchanged Builder::build, posterior_error and
-//! score_psms, and beside lines of theirs that no call reaches alone, quoted in `kde/reading.rs`.
+//! score_psms, and beside lines inside them that cannot be called alone, quoted in `kde/reading.rs`.
 
+pub mod buffers;
 pub mod builds;
 pub mod draws;
 mod errors;
-pub mod lent;
 mod logs;
 mod mixing;
 pub mod psms;
@@ -32,7 +32,7 @@ struct Calls {
     log_errors: Tally,
 }
 
-/// Compares every call, on as many builds, estimators and pairs of densities; says whether nothing differed.
+/// Compares every call, on `builds` builds, estimators and pairs of densities; says whether nothing differed.
 pub fn run(builds: u64) -> bool {
     // Called from another thread, each kernel sum of sage's would wait for rayon's.
     on_rayons_thread(|| {
@@ -86,8 +86,8 @@ fn expect_same<T: Answer>(what: &str, port: T, wanted: T) -> Result<(), String> 
     expect_column(what, &[port], std::iter::once(wanted))
 }
 
-/// Floats in a report, as bits.
-fn told<T: Answer>(floats: &[T]) -> String {
+/// The bits of the first twelve floats, for a report.
+fn as_hex<T: Answer>(floats: &[T]) -> String {
     let more = if floats.len() > 12 { " .." } else { "" };
     let floats: Vec<String> = floats.iter().take(12).map(|x| x.hex()).collect();
     format!("{}{more}", floats.join(" "))

@@ -48,7 +48,7 @@ pub fn label(decoy: bool, turn: usize) -> i32 {
     }
 }
 
-/// Hands `check` a run of `head` targets with every pattern of up to `longest` decoys and targets behind it.
+/// Calls `check` with a run of `head` targets, followed by every pattern of up to `longest` decoys and targets.
 pub fn each_pattern(head: usize, longest: usize, mut check: impl FnMut(&[i32])) {
     let mut labels = Vec::new();
     for length in 0..=longest {
@@ -62,7 +62,7 @@ pub fn each_pattern(head: usize, longest: usize, mut check: impl FnMut(&[i32])) 
 }
 
 /// Blocks of `per` targets and a decoy, the first block of `first` targets. Where `first` is `per`, the last target of
-/// each block sits exactly at one in `per`; with a target more or less every one sits beside it.
+/// each block is exactly at one in `per`; with a target more or less every one is just beside it.
 pub fn blocks(per: usize, first: usize, length: usize) -> impl Iterator<Item = i32> {
     (0..length).map(move |place| label(place >= first && (place - first) % (per + 1) == 0, place))
 }
@@ -124,7 +124,7 @@ fn at_threshold(random: &mut Random, labels: &mut Vec<i32>) {
         let decoy = match order {
             0 => left <= decoys,
             1 => decoys_left > 0,
-            // evenly: as many as are due by now
+            // evenly
             2 => decoys_left * (targets + decoys) > left * decoys,
             _ => random.below(left as u64) < decoys_left as u64,
         };

@@ -1,6 +1,9 @@
 //! Compares sage's unchanged Rust with libvayemuku.a, and times both.
 
+#![forbid(unsafe_code)]
+
 mod bench;
+mod calls;
 mod cases;
 mod counting;
 mod differences;
@@ -14,7 +17,6 @@ mod report;
 mod sage;
 mod sample;
 mod smoke;
-mod vayemuku;
 
 use std::process::ExitCode;
 
@@ -33,16 +35,16 @@ const USAGE: &str = "usage: compare smoke
        compare bench kde
        compare bench fdr";
 
-/// How many random lists `counting` compares where nothing else is said.
+/// How many random lists `counting` compares by default.
 const LISTS: u64 = 200_000;
 
-/// How many random builds and estimators `kde` compares where nothing else is said.
+/// How many random builds and estimators `kde` compares by default.
 const BUILDS: u64 = 30_000;
 
-/// How many random tables of either sort `fdr` compares where nothing else is said.
+/// How many random tables of either sort `fdr` compares by default.
 const TABLES: u64 = 50_000;
 
-/// Runs the words of the command line; None where they mean nothing.
+/// Runs the command line; None where it is not valid.
 fn run(words: &[&str]) -> Option<bool> {
     match words {
         ["smoke"] => Some(smoke::run()),
@@ -66,7 +68,7 @@ fn run(words: &[&str]) -> Option<bool> {
     }
 }
 
-/// Ends with 0 where all is the same, 1 on a mismatch, 2 on words that mean nothing.
+/// Ends with 0 where all is the same, 1 on a mismatch, 2 where the command line is not valid.
 fn main() -> ExitCode {
     // With two threads the kernel sums of sage's kde.rs are not deterministic.
     std::env::set_var("RAYON_NUM_THREADS", "1");

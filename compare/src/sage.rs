@@ -1,4 +1,4 @@
-//! sage's rows and peaks, made from the columns that the port is handed.
+//! sage's rows and peaks, made from the columns that the port takes.
 
 use fnv::FnvHashMap;
 use sage_core::database::PeptideIx;
@@ -7,16 +7,16 @@ use sage_core::lfq::{Peak, PrecursorId};
 use sage_core::ml::qvalue::spectrum_q_value;
 use sage_core::scoring::Feature;
 
-/// What a row takes while both sides work on it: sage's row, and the port's columns.
+/// The memory for a row: sage's row, and the port's columns.
 pub const ROW_BYTES: usize = size_of::<Feature>() + 60;
 
-/// What a precursor takes while both sides work on it: sage's two maps and its rows, and the port's columns.
+/// The memory for a precursor: sage's two maps and its rows, and the port's columns.
 pub const PEAK_BYTES: usize = 400;
 
 /// The key of a precursor: what it is, and whether it is a decoy.
 type Key = (PrecursorId, bool);
 
-/// What picked_precursor takes.
+/// The argument of picked_precursor.
 pub type Peaks = FnvHashMap<Key, (Peak, Vec<f64>)>;
 
 /// Rows that are used for one list after the other.
@@ -78,8 +78,8 @@ pub fn q_of<'a>(peaks: &'a Peaks, labels: &'a [i32]) -> impl Iterator<Item = f32
 
 /// Ok where this much memory is available, or where /proc does not say how much is.
 pub fn room_for(bytes: usize) -> Result<(), String> {
-    let told = std::fs::read_to_string("/proc/meminfo").unwrap_or_default();
-    let line = told.lines().find_map(|line| line.strip_prefix("MemAvailable:")?.strip_suffix("kB"));
+    let memory = std::fs::read_to_string("/proc/meminfo").unwrap_or_default();
+    let line = memory.lines().find_map(|line| line.strip_prefix("MemAvailable:")?.strip_suffix("kB"));
     let left = line.and_then(|kilobytes| kilobytes.trim().parse().ok()).map_or(usize::MAX, |k: usize| k * 1024);
     match left >= bytes {
         true => Ok(()),

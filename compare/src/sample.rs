@@ -1,23 +1,22 @@
-//! The sample's rows through sage's unchanged score_psms, spectrum_q_value and picked_protein, one after the
-//! other, and through host's rescore with sage's densities; host's list of the rows beside host's rescore with its own; and
-//! the batch that both do not fit.
+//! The sample: sage's unchanged score_psms, spectrum_q_value and picked_protein beside host's rescore with sage's
+//! densities; the program's list beside host's rescore with its own densities; and the batch that neither can fit.
 
 mod sage;
 mod table;
 
 use crate::report::{expect, Answer, Tally};
 use host::kernel::Kernels;
-use host::rescoring::{rescore, Refused, Rescored};
-use host::{Densities, Names, Refusal, Tolerance};
-use sage::{Recorded, Strung};
+use host::rescoring::{rescore, Rescored};
+use host::{Call, Densities, Names, Refusal, Refused, Tolerance};
+use sage::{Recorded, SageRun};
 use table::{Cells, Row};
 
-/// The tolerances that the sample is compared under; the program's list is made under the first. Under these no two sides
-/// of proteins have equal scores: sage ranks those in the order of its map.
+/// The tolerances that the sample is compared under; the program's list is made under the first. Under these no two
+/// sides of proteins have equal scores: sage ranks those in the order of its map.
 const TOLERANCES: [Tolerance; 2] = [Tolerance::Ppm(-10.0, 10.0), Tolerance::Da(-700.0, 700.0)];
 
-/// The columns that are compared.
-struct Columns {
+/// A tally of each column that is compared.
+struct Tallies {
     row: Tally,
     score: Tally,
     posterior_error: Tally,
@@ -26,9 +25,9 @@ struct Columns {
     counts: Tally,
 }
 
-/// One line of a list.
+/// One row of a list.
 #[derive(Clone, Copy)]
-struct Line {
+struct ListRow {
     row: usize,
     score: f32,
     posterior_error: f32,
@@ -59,9 +58,9 @@ fn rescored(rows: &[Row], tolerance: Tolerance, densities: &mut dyn Densities) -
     rescore(&psms, &keys, Names::Two, tolerance, densities)
 }
 
-/// host's lines.
-fn lines(rescored: &Rescored) -> impl Iterator<Item = Line> + '_ {
-    (0..rescored.order.len()).map(|place| Line {
+/// host's rows.
+fn list_rows(rescored: &Rescored) -> impl Iterator<Item = ListRow> + '_ {
+    (0..rescored.order.len()).map(|place| ListRow {
         row: rescored.order[place],
         score: rescored.scores[place],
         posterior_error: rescored.posterior_errors[place],
@@ -73,52 +72,52 @@ fn lines(rescored: &Rescored) -> impl Iterator<Item = Line> + '_ {
 /// host with sage's densities beside sage.
 fn beside_sage(table: &Cells, tolerance: Tolerance) -> bool {
     let rows = table.rows();
-    let sage = Strung::run(&rows, tolerance).expect("sage fits the sample");
+    let sage = SageRun::run(&rows, tolerance).expect("sage fits the sample");
     let mut densities = Recorded::new(&sage.builds);
     let port = rescored(&rows, tolerance, &mut densities).expect("the port fits the sample");
-    let mut columns = Columns::new();
-    for (port, sage) in lines(&port).zip(sage.lines()) {
-        columns.count(&port, &sage);
+    let mut tallies = Tallies::new();
+    for (port, sage) in list_rows(&port).zip(sage.list_rows()) {
+        tallies.count(&port, &sage);
     }
-    columns.number("rows", port.order.len(), sage.features.len());
-    columns.number("spectra that pass", port.spectra.count, sage.spectra);
-    columns.number("proteins that pass", port.proteins.count, sage.proteins);
-    columns.number("samples of a density that differ", densities.differ, 0);
-    columns.number("densities", densities.taken, 6);
-    columns.number("sides of proteins with equal scores", sage.ties(&rows), 0);
+    tallies.number("rows", port.order.len(), sage.features.len());
+    tallies.number("spectra that pass", port.spectra.count, sage.spectra);
+    tallies.number("proteins that pass", port.proteins.count, sage.proteins);
+    tallies.number("samples of a density that differ", densities.differ, 0);
+    tallies.number("densities", densities.taken, 6);
+    tallies.number("sides of proteins with equal scores", sage.ties(&rows), 0);
     println!("the sample beside sage, {tolerance:?}, {} rows", rows.len());
-    columns.print()
+    tallies.print()
 }
 
 /// The list that the program wrote beside host with its own densities.
 fn beside_list(table: &Cells, list: &Cells) -> bool {
     let port = rescored(&table.rows(), TOLERANCES[0], &mut Kernels).expect("the port fits the sample");
-    let mut columns = Columns::new();
-    let written: Vec<Line> = list.lines();
-    for (port, written) in lines(&port).zip(&written) {
-        columns.count(&port, written);
+    let mut tallies = Tallies::new();
+    let written: Vec<ListRow> = list.list_rows();
+    for (port, written) in list_rows(&port).zip(&written) {
+        tallies.count(&port, written);
     }
-    columns.number("rows", port.order.len(), written.len());
+    tallies.number("rows", port.order.len(), written.len());
     println!("the program's list of the sample, {} rows", written.len());
-    columns.print()
+    tallies.print()
 }
 
 /// The batch that sage's score_psms gives nothing for, and the port a refusal with 7.
 fn refused_by_both(table: &Cells) -> bool {
     let rows = table.rows();
     let mut tally = Tally::new("refused");
-    tally.count(Strung::run(&rows, TOLERANCES[0]).is_none(), || "sage fits it".to_string());
+    tally.count(SageRun::run(&rows, TOLERANCES[0]).is_none(), || "sage fits it".to_string());
     let answer = rescored(&rows, TOLERANCES[0], &mut Kernels).err();
-    let wanted = Some(Refused { call: "vayemuku_train", refusal: Refusal::Unsolved });
+    let wanted = Some(Refused { call: Call::Train, refusal: Refusal::Unsolved });
     tally.outcome(expect("answer", answer, wanted));
     println!("the batch that is refused, {} rows", rows.len());
     tally.print()
 }
 
-impl Columns {
+impl Tallies {
     /// Nothing counted yet.
-    fn new() -> Columns {
-        Columns {
+    fn new() -> Tallies {
+        Tallies {
             row: Tally::new("row"),
             score: Tally::new("score"),
             posterior_error: Tally::new("posterior_error"),
@@ -128,8 +127,8 @@ impl Columns {
         }
     }
 
-    /// Counts two lines at one place.
-    fn count(&mut self, port: &Line, wanted: &Line) {
+    /// Counts two rows at one place.
+    fn count(&mut self, port: &ListRow, wanted: &ListRow) {
         let column = |tally: &mut Tally, got: f32, wanted: f32| {
             let words = || format!("row {}: port {}, and it should be {}", port.row + 1, got.hex(), wanted.hex());
             tally.count(got.same(wanted), words);
@@ -147,7 +146,7 @@ impl Columns {
         self.counts.count(port == wanted, || format!("{what}: {port}, and it should be {wanted}"));
     }
 
-    /// Prints all columns; true where nothing differs.
+    /// Prints every tally; true where nothing differs.
     fn print(&self) -> bool {
         let all = [&self.row, &self.score, &self.posterior_error, &self.spectrum_q, &self.protein_q, &self.counts];
         let same = all.map(Tally::print);

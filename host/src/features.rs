@@ -77,7 +77,7 @@ pub struct Psm {
 }
 
 impl Psm {
-    /// The mass error that the tolerance speaks of.
+    /// The mass error in the tolerance's unit.
     pub fn mass_error(&self, tolerance: Tolerance) -> f64 {
         match tolerance {
             Tolerance::Ppm(..) | Tolerance::Pct(..) => self.precursor_ppm.into(),
@@ -120,7 +120,7 @@ impl Psm {
 mod tests {
     use super::*;
 
-    /// A row whose features can be told without a computer.
+    /// A row whose features are easy to work out by hand.
     fn plain() -> Psm {
         Psm {
             rank: 2,
@@ -181,7 +181,7 @@ mod tests {
     }
 
     #[test]
-    fn differences_are_held_to_a_range() {
+    fn differences_are_clamped_to_a_range() {
         let row = |difference| Psm { delta_rt_model: difference, delta_mobility: difference, ..plain() };
         assert_eq!(row(5.0).features(0.0)[18..], [0.999f64.sqrt(); 2]);
         assert_eq!(row(-5.0).features(0.0)[18..], [0.001f64.sqrt(); 2]);

@@ -1,9 +1,9 @@
-//! The kernel and the bandwidth of sage's kde.rs, which the host takes its densities with.
+//! The kernel and the bandwidth of sage's kde.rs, with which the host takes its densities.
 
-/// Densities, as the host takes them at the scores of bins.
+/// A source of densities, which the host takes at the scores of bins.
 pub trait Densities {
-    /// The density of a sample at each place, with sage's bandwidth times `width`; `what` says in words what it is of.
-    fn take(&mut self, what: &str, sample: &[f64], width: f64, places: &[f64]) -> Vec<f64>;
+    /// The density of a sample at each point, with sage's bandwidth times `width`; `what` describes it for a reader.
+    fn take(&mut self, what: &str, sample: &[f64], width: f64, points: &[f64]) -> Vec<f64>;
 }
 
 /// Densities by sage's kernel.
@@ -11,16 +11,16 @@ pub trait Densities {
 pub struct Kernels;
 
 impl Densities for Kernels {
-    fn take(&mut self, _what: &str, sample: &[f64], width: f64, places: &[f64]) -> Vec<f64> {
+    fn take(&mut self, _what: &str, sample: &[f64], width: f64, points: &[f64]) -> Vec<f64> {
         let kernel = Kernel::new(sample, width);
-        places.iter().map(|&place| kernel.density(place)).collect()
+        points.iter().map(|&point| kernel.density(point)).collect()
     }
 }
 
 /// A kernel over a sample: sage's Kde.
 ///
-/// The operations are those of kde.rs in their order. Sage adds the kernels in parts, as its threads divide the sample; here
-/// they are added in the order of the sample.
+/// The operations are those of kde.rs in their order. Sage adds the kernels in parts, as its threads divide the sample;
+/// here they are added in the order of the sample.
 #[derive(Clone, Debug)]
 pub struct Kernel<'a> {
     sample: &'a [f64],
@@ -44,10 +44,10 @@ impl<'a> Kernel<'a> {
         self.bandwidth
     }
 
-    /// The density at a place; NaN for a sample of no number, or of equal ones.
-    pub fn density(&self, place: f64) -> f64 {
+    /// The density at a point; NaN for an empty sample, or one of equal numbers.
+    pub fn density(&self, point: f64) -> f64 {
         let kernel = |x: f64| (-0.5 * x.powi(2)).exp();
-        let sum = self.sample.iter().fold(0.0, |sum, x| sum + kernel((place - x) / self.bandwidth));
+        let sum = self.sample.iter().fold(0.0, |sum, x| sum + kernel((point - x) / self.bandwidth));
         sum / self.constant
     }
 }

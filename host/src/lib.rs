@@ -1,6 +1,7 @@
 //! Sage's false-discovery arithmetic, proved: safe calls of libvayemuku.a.
 //!
-//! A column is a slice. A call returns its results, which this call worked out, or a [`Refusal`].
+//! A column is a slice. A call returns its results, which this call worked out, or its refusal: [`Refused`], which is
+//! the call and a [`Refusal`].
 //!
 //! ```
 //! use vayemuku::{check_line, spectrum_q_value, Line, Rate};
@@ -10,8 +11,8 @@
 //! labels.push(-1);
 //! let answer = spectrum_q_value(&labels)?;
 //! assert_eq!(answer.count, 100);
-//! assert!(matches!(check_line(Rate::OneIn100, &labels, answer.count)?, Line::Right(_)));
-//! # Ok::<(), vayemuku::Refusal>(())
+//! assert!(matches!(check_line(&labels, answer.count, Rate::OneIn100)?, Line::Right(_)));
+//! # Ok::<(), vayemuku::Refused>(())
 //! ```
 //!
 //! There is no way to read a result of a call that refused. This does not compile:
@@ -20,12 +21,14 @@
 //! let count = vayemuku::spectrum_q_value(&[1]).count;
 //! ```
 //!
-//! [`rescoring::rescore`] makes the calls in the order of sage's score_psms, spectrum_q_value and picked_protein. What the
-//! port leaves with the host is here too: the logarithms in [`features`], the kernel in [`kernel`].
+//! [`rescoring::rescore`] makes the calls in the order of sage's score_psms, spectrum_q_value and picked_protein. What
+//! the port leaves to the host is here too: the logarithms in [`features`], the kernel in [`kernel`]. The package
+//! `vayemuku-sys` has the declarations, and all unsafe code.
+
+#![forbid(unsafe_code)]
 
 mod competition;
 mod counting;
-mod declared;
 mod discriminant;
 pub mod features;
 pub mod floats;
@@ -36,12 +39,13 @@ mod posterior;
 mod refusal;
 pub mod rescoring;
 
-pub use competition::{Names, Table, Winners, NO_PART};
-pub use counting::{picked_precursor, rank_keys, ranks, spectrum_q_value, QValues, LONGEST};
+pub use competition::{CompetitionTable, Names, Winners, NO_PART};
+pub use counting::{order, picked_precursor, rank_keys, spectrum_q_value, QValues, LONGEST};
 pub use discriminant::{Model, Scores};
 pub use features::Psm;
 pub use gauss::{solve, FEATURES};
 pub use kernel::Densities;
 pub use line::{check_line, Counts, Line, Rate};
-pub use posterior::{log_error, log_errors, Estimator, Places, Shape, Tolerance, BINS, MOST_BINS};
-pub use refusal::Refusal;
+pub use posterior::{log_error, log_errors, BinScores, Builder, Estimator, Tolerance, MOST_BINS};
+pub use refusal::{Refusal, Refused};
+pub use vayemuku_sys::Call;

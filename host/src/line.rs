@@ -1,10 +1,10 @@
 //! Module 7: whether a line of a list is right.
 
-use crate::declared::{vayemuku_check_line_100, vayemuku_check_line_20};
-use crate::Refusal;
+use crate::Refused;
 use std::fmt::{Display, Formatter};
+use vayemuku_sys::{self as sys, Checked};
 
-/// A rate that a line is drawn at.
+/// The rate of a line.
 #[derive(Clone, Copy, Debug, PartialEq, Eq)]
 pub enum Rate {
     /// 100 times (decoys plus one) is at most the targets.
@@ -22,7 +22,7 @@ impl Display for Rate {
     }
 }
 
-/// A row, and what stands up to it, itself included.
+/// A row, and the decoys and targets up to it, itself included.
 #[derive(Clone, Copy, Debug, PartialEq, Eq)]
 pub struct Counts {
     /// The row, from 1; 0 is the line above all rows.
@@ -59,27 +59,24 @@ impl Display for Line {
 
 /// Whether a line of a ranked list is right: it is 0 or its row qualifies, and no later row does.
 ///
-/// Refuses with [`Refusal::TooLong`] and [`Refusal::PastTheEnd`].
+/// Refuses with [`TooLong`](crate::Refusal::TooLong) and [`PastTheEnd`](crate::Refusal::PastTheEnd).
 ///
 /// ```
 /// use vayemuku::{check_line, Counts, Line, Rate};
 /// let mut labels = vec![1; 20];
 /// labels.push(-1);
 /// let counts = Counts { row: 20, decoys_plus_one: 1, targets: 20 };
-/// assert_eq!(check_line(Rate::OneIn20, &labels, 20), Ok(Line::Right(counts)));
-/// assert_eq!(check_line(Rate::OneIn20, &labels, 0), Ok(Line::Wrong(counts)));
+/// assert_eq!(check_line(&labels, 20, Rate::OneIn20), Ok(Line::Right(counts)));
+/// assert_eq!(check_line(&labels, 0, Rate::OneIn20), Ok(Line::Wrong(counts)));
 /// ```
-pub fn check_line(rate: Rate, labels: &[i32], line: usize) -> Result<Line, Refusal> {
-    let call = match rate {
-        Rate::OneIn100 => vayemuku_check_line_100,
-        Rate::OneIn20 => vayemuku_check_line_20,
+pub fn check_line(labels: &[i32], line: usize, rate: Rate) -> Result<Line, Refused> {
+    let check = match rate {
+        Rate::OneIn100 => sys::check_line_100,
+        Rate::OneIn20 => sys::check_line_20,
     };
-    let mut right = 0;
-    let (mut row, mut decoys_plus_one, mut targets) = (0, 0, 0);
-    let (column, length) = (labels.as_ptr(), labels.len());
-    // SAFETY: the length is that of the column.
-    let number = unsafe { call(column, length, line, &mut right, &mut row, &mut decoys_plus_one, &mut targets) };
-    Refusal::from_call(number)?;
+    let mut checked = Checked::default();
+    Refused::check(check(labels, line, &mut checked))?;
+    let Checked { right, row, decoys_plus_one, targets } = checked;
     let counts = Counts { row, decoys_plus_one, targets };
     Ok(match right {
         1 => Line::Right(counts),

@@ -1,11 +1,12 @@
-//! Why a call refuses.
+//! Refusals: why a call refuses, and which call it was.
 
 use std::fmt::{Display, Formatter};
+use vayemuku_sys::{Call, Returned};
 
 /// Why a call refuses: the questions that are asked of each call, by their numbers.
 ///
-/// A call asks only what its inputs have, in the order of the numbers (4 is asked before 3), and the first question that is
-/// not met is the one returned.
+/// A call asks only what its inputs have, in the order of the numbers (4 is asked before 3), and returns the first
+/// question that is answered with no.
 ///
 /// ```
 /// use vayemuku::Refusal;
@@ -69,13 +70,9 @@ impl Refusal {
         }
     }
 
-    /// Ok where a call returned 0, and otherwise the refusal of the number returned.
-    pub(crate) fn from_call(number: u32) -> Result<(), Refusal> {
-        if number == 0 {
-            return Ok(());
-        }
-        let known = Self::ALL.into_iter().find(|refusal| refusal.number() == number);
-        Err(known.unwrap_or_else(|| unreachable!("libvayemuku.a returned {number}, and its calls return 0 to 9")))
+    /// The refusal of a number.
+    fn of_number(number: u32) -> Option<Refusal> {
+        Self::ALL.into_iter().find(|refusal| refusal.number() == number)
     }
 }
 
@@ -86,3 +83,47 @@ impl Display for Refusal {
 }
 
 impl std::error::Error for Refusal {}
+
+/// Which call refused, and why.
+///
+/// ```
+/// use vayemuku::{spectrum_q_value, Call, Refusal, Refused, LONGEST};
+/// let refused = spectrum_q_value(&vec![1; LONGEST + 1]).unwrap_err();
+/// assert_eq!(refused, Refused { call: Call::SpectrumQValue, refusal: Refusal::TooLong });
+/// let words = "vayemuku_spectrum_q_value refused with 1: a list has more than 16,777,215 entries";
+/// assert_eq!(refused.to_string(), words);
+/// ```
+#[derive(Clone, Copy, Debug, PartialEq, Eq, Hash)]
+pub struct Refused {
+    /// The call.
+    pub call: Call,
+    /// Why it refused.
+    pub refusal: Refusal,
+}
+
+impl Refused {
+    /// Ok where a call accepted, otherwise its refusal.
+    pub(crate) fn check(returned: Returned) -> Result<(), Refused> {
+        let Returned { call, number } = returned;
+        if number == 0 {
+            return Ok(());
+        }
+        let refusal = Refusal::of_number(number);
+        let refusal = refusal.unwrap_or_else(|| unreachable!("{call} returned {number}, and calls return 0 to 9"));
+        Err(Refused { call, refusal })
+    }
+}
+
+impl Display for Refused {
+    fn fmt(&self, to: &mut Formatter<'_>) -> std::fmt::Result {
+        write!(to, "{} refused with {}: {}", self.call, self.refusal.number(), self.refusal)
+    }
+}
+
+impl std::error::Error for Refused {}
+
+impl From<Refused> for Refusal {
+    fn from(refused: Refused) -> Refusal {
+        refused.refusal
+    }
+}

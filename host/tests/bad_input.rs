@@ -6,7 +6,7 @@ use common::{program, Cells, Folder, Ran};
 use std::io::Write;
 use std::process::Stdio;
 
-/// The columns of numbers that rescore reads, and what a cell is that holds none.
+/// The columns of numbers that rescore reads, and what the error says of a cell that holds none.
 const NUMBERS: [(&str, &str); 23] = [
     ("rank", "no whole number from 0 to 4,294,967,295"),
     ("charge", "no whole number from 0 to 255"),
@@ -33,24 +33,24 @@ const NUMBERS: [(&str, &str); 23] = [
     ("label", "no label, which is a whole number of 32 bits, -1 for a decoy"),
 ];
 
-/// A list that check finds nothing wrong with.
+/// A list in which check finds no error.
 const LIST: &str = "label\tsage_discriminant_score\tspectrum_q\n1\t3\t1\n-1\t2\t1\n1\t1\t1\n";
 
-/// That rescore stops on this table with this line, and leaves nothing behind.
+/// Asserts that rescore stops on this table with this line, and writes no file.
 fn rescore_fails(folder: &Folder, text: impl AsRef<[u8]>, line: &str) {
     folder.write("in.tsv", text);
     folder.run("rescore in.tsv out.tsv").failed(3, line);
     assert_eq!(folder.files(), ["in.tsv"]);
 }
 
-/// That check stops on this list with this line.
+/// Asserts that check stops on this list with this line.
 fn check_fails(folder: &Folder, text: impl AsRef<[u8]>, line: &str) {
     folder.write("in.tsv", text);
     folder.run("check in.tsv --line 1").failed(3, line);
 }
 
 #[test]
-fn what_is_changed_below_is_well_as_it_is() {
+fn the_unchanged_inputs_are_accepted() {
     let folder = Folder::new("well");
     folder.write("in.tsv", folder.sample(60).text());
     assert_eq!(folder.run("rescore in.tsv out.tsv").status, Some(0));
@@ -68,7 +68,7 @@ fn no_such_file() {
 }
 
 #[test]
-fn a_folder_for_a_file() {
+fn a_folder_instead_of_a_file() {
     let folder = Folder::new("a-folder");
     std::fs::create_dir(folder.path("in.tsv")).unwrap();
     let line = "in.tsv: Is a directory (os error 21)";
@@ -93,7 +93,7 @@ fn a_missing_column() {
 }
 
 #[test]
-fn a_cell_that_is_no_number() {
+fn a_cell_that_is_not_a_number() {
     let folder = Folder::new("no-number");
     let sample = folder.sample(5);
     for (column, none) in NUMBERS {
@@ -105,7 +105,7 @@ fn a_cell_that_is_no_number() {
 }
 
 #[test]
-fn a_label_that_is_none() {
+fn a_label_that_is_not_a_whole_number_of_32_bits() {
     let folder = Folder::new("no-label");
     let sample = folder.sample(5);
     let list = Cells::of(LIST, 3);
@@ -129,7 +129,7 @@ fn a_number_out_of_range() {
 }
 
 #[test]
-fn a_score_or_q_value_that_is_no_number() {
+fn a_score_or_q_value_that_is_not_a_number() {
     let folder = Folder::new("no-score");
     let list = Cells::of(LIST, 3);
     for column in ["sage_discriminant_score", "spectrum_q"] {
@@ -163,7 +163,7 @@ fn an_empty_file() {
 }
 
 #[test]
-fn lines_with_windows_ends() {
+fn windows_line_ends() {
     let folder = Folder::new("windows");
     let why = "the line has a carriage return: take Windows line ends out, as by tr -d '\\r'";
     let sample = folder.sample(5).text();
@@ -207,14 +207,14 @@ fn a_column_that_is_there_twice() {
 }
 
 #[test]
-fn proteins_that_do_not_go_with_their_labels() {
+fn proteins_that_do_not_match_their_labels() {
     let folder = Folder::new("proteins");
     let sample = folder.sample(40).with_all("num_proteins", "1");
     let row = |label| 1 + sample.column("label").iter().position(|cell| *cell == label).unwrap();
     let (decoy, target) = (row("-1"), row("1"));
     let line = format!(
-        "in.tsv: row {decoy} (line {}): column proteins: 'P1' is a decoy by its label, but does not begin with rev_: see \
-         --decoy-tag and --fasta-decoys",
+        "in.tsv: row {decoy} (line {}): column proteins: 'P1' is a decoy by its label, but does not begin with rev_: \
+         see --decoy-tag and --fasta-decoys",
         decoy + 1
     );
     rescore_fails(&folder, sample.with(decoy, "proteins", "P1").text(), &line);
@@ -241,7 +241,7 @@ fn an_output_that_cannot_be_written() {
     assert_eq!(folder.files(), ["in.tsv", "out.tsv"]);
 }
 
-/// Rescores under a limit of the size of files, with shell words before; the list would be greater.
+/// Rescores under a limit on file sizes that the list exceeds; `before` is run in the shell first.
 fn rescored_under_a_limit(folder: &Folder, before: &str) -> Ran {
     folder.write("in.tsv", folder.sample(600).text());
     let words = format!("{before} ulimit -f 8; exec \"$0\" rescore in.tsv out.tsv");
@@ -249,19 +249,19 @@ fn rescored_under_a_limit(folder: &Folder, before: &str) -> Ran {
 }
 
 #[test]
-fn an_output_that_does_not_become_whole() {
+fn an_output_that_is_not_completed() {
     let folder = Folder::new("not-whole");
     let ran = rescored_under_a_limit(&folder, "trap '' XFSZ;");
     ran.failed(3, "out.tsv: it cannot be written: File too large (os error 27)");
     assert_eq!(folder.files(), ["in.tsv"]);
-    // a program that is killed cannot clean up, but what it leaves does not have the name
+    // a program that is killed cannot remove its draft, but the draft does not have the list's name
     let ran = rescored_under_a_limit(&folder, "");
     assert_eq!((ran.status, ran.stdout.as_str()), (None, ""));
     assert!(!folder.files().contains(&"out.tsv".to_string()));
 }
 
 #[test]
-fn a_run_that_is_killed_at_its_work_leaves_nothing() {
+fn a_run_that_is_killed_while_it_reads_leaves_no_file() {
     let folder = Folder::new("killed");
     let mut command = program();
     let words = ["rescore", "/dev/stdin", "out.tsv"];
@@ -274,7 +274,7 @@ fn a_run_that_is_killed_at_its_work_leaves_nothing() {
 }
 
 #[test]
-fn what_a_killed_run_left_is_in_no_ones_way() {
+fn a_draft_of_a_killed_run_does_not_block_the_next() {
     let folder = Folder::new("left");
     folder.write("in.tsv", folder.sample(60).text());
     let ran = folder.run_shell("echo left > .vayemuku-$$.part; exec \"$0\" rescore in.tsv out.tsv");
@@ -285,7 +285,7 @@ fn what_a_killed_run_left_is_in_no_ones_way() {
 }
 
 #[test]
-fn a_refusal_is_told_though_its_list_does_not_become_whole() {
+fn a_refusal_is_reported_when_its_list_cannot_be_completed() {
     let folder = Folder::new("refused-not-whole");
     folder.write("in.tsv", folder.sample(600).with_all("label", "1").with_all("num_proteins", "2").text());
     let ran = folder.run_shell("trap '' XFSZ; ulimit -f 8; exec \"$0\" rescore in.tsv out.tsv");
@@ -303,7 +303,7 @@ fn standard_output_that_cannot_be_written() {
         let ran = folder.run_shell(&format!("exec \"$0\" {words} > /dev/full"));
         ran.failed(3, "standard output: No space left on device (os error 28)");
     }
-    // the list of a rescoring is there then
+    // the list of a rescoring has been written by then
     folder.write("in.tsv", folder.sample(60).text());
     let ran = folder.run_shell("exec \"$0\" rescore in.tsv out.tsv > /dev/full");
     ran.failed(3, "standard output: No space left on device (os error 28)");
@@ -325,7 +325,7 @@ fn help_and_version() {
 }
 
 #[test]
-fn words_that_mean_nothing() {
+fn invalid_command_lines() {
     let folder = Folder::new("words");
     folder.write("in.tsv", LIST);
     let fails = |words: &str, why: &str| folder.run(words).failed(2, &format!("{why}; `vayemuku help` tells more"));

@@ -4,7 +4,7 @@ mod common;
 
 use common::{Folder, Ran};
 
-/// A list of so many targets and then decoys, the best score first, with a q-value for each.
+/// A list of `targets` targets and then `decoys` decoys, the best score first, with a q-value for each.
 fn list(targets: usize, decoys: usize, q: impl Fn(usize) -> f32) -> Vec<String> {
     let row = |place: usize| {
         let label = if place < targets { 1 } else { -1 };
@@ -21,18 +21,18 @@ fn check(folder: &Folder, rows: &[String], options: &str) -> Ran {
     ran
 }
 
-/// That a check printed these three lines and ended with this status.
+/// Asserts that a check printed these three lines and ended with this status.
 fn printed(ran: &Ran, status: i32, lines: [&str; 3]) {
     assert_eq!(ran.status, Some(status), "{}", ran.stdout);
     assert_eq!(ran.stdout.lines().collect::<Vec<_>>(), lines);
 }
 
-/// What is printed where the rows stand as ranked, of a list with so many.
+/// The line of a list whose rows are in the order of their ranks.
 fn ranked(rows: usize) -> String {
     format!("list      list.tsv: {rows} rows, which stand as ranked")
 }
 
-/// What is printed where all q-values are right.
+/// The line of a list whose q-values are all right.
 const Q_RIGHT: &str = "q-values  each is what the counting rule gives";
 
 #[test]
@@ -95,7 +95,7 @@ fn q_values_that_the_counting_rule_does_not_give() {
     let wrong = "q-values  1 of 101 are not what the counting rule gives, the first as ranked in row 71 (line 72): \
                  0.010000001, and it gives 0.01";
     printed(&check(&folder, &rows, "--line 100"), 1, [&ranked(101), right, wrong]);
-    // without the decoy that is added to those counted
+    // without the one that is added to the decoys
     let rows = list(100, 1, |place| if place < 100 { 0.0 } else { 0.01 });
     let wrong =
         "q-values  101 of 101 are not what the counting rule gives, the first as ranked in row 1 (line 2): 0.0, \

@@ -37,7 +37,7 @@ const READ: [&str; 24] = [
     "num_proteins",
 ];
 
-/// Runs the program with a table on its standard input: a header, a first row, and rows that are all alike.
+/// Runs the program with a table on its standard input: a header, a first row, and equal rows after it.
 fn run(words: &[&str], header: &str, first: &str, row: &str, rows: usize) -> Ran {
     let mut command = program();
     let piped = command.args(words).stdin(Stdio::piped()).stdout(Stdio::piped()).stderr(Stdio::piped());
@@ -70,8 +70,8 @@ fn check() {
         most.stdout,
         "list      /dev/stdin: 16777215 rows, which stand as ranked\n\
          line      16777215 at one in 100 is Right: row 16777215, decoys plus one 1, targets 16777215\n\
-         q-values  16777215 of 16777215 are not what the counting rule gives, the first as ranked in row 1 (line 2): 1.0, \
-         and it gives 5.960465e-8\n"
+         q-values  16777215 of 16777215 are not what the counting rule gives, the first as ranked in row 1 (line 2): \
+         1.0, and it gives 5.960465e-8\n"
     );
 }
 
@@ -84,7 +84,7 @@ fn rescore() {
     let words = ["rescore", "/dev/stdin", out.to_str().unwrap()];
     let over = run(&words, &header, &row, &row, MOST + 1);
     over.failed(3, "/dev/stdin: row 16777216 (line 16777217): a list has at most 16,777,215 rows");
-    // one row less, and what is wrong with the first row is told
+    // with one row less, the error is that of the first row
     let first = row.replacen('1', "x", 1);
     let most = run(&words, &header, &first, &row, MOST);
     let why = "column rank: 'x' is no whole number from 0 to 4,294,967,295";

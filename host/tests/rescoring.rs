@@ -1,4 +1,4 @@
-//! The rescoring job on the sample: what is in the list, and what a refusal leaves.
+//! The rescoring job on the sample: the contents of the list, and of the list of a refusal.
 
 mod common;
 
@@ -11,7 +11,7 @@ const FRESH: [&str; 4] = ["sage_discriminant_score", "posterior_error", "spectru
 /// Stored columns that never come through.
 const STORED: [&str; 5] = ["sage_discriminant_score", "posterior_error", "spectrum_q", "peptide_q", "protein_q"];
 
-/// Today's date in UTC, by another program.
+/// Today's date in UTC, from another program.
 fn today() -> String {
     let output = Command::new("date").args(["-u", "+%F"]).output().unwrap();
     String::from_utf8(output.stdout).unwrap().trim().to_string()
@@ -29,7 +29,7 @@ fn rescored(folder: &Folder, table: &Cells, options: &str) -> (Ran, Cells) {
     (ran, list)
 }
 
-/// That a call refused: status 4, the line, and every fresh cell empty while the rest stands as it was.
+/// Asserts that a call refused: status 4, the line, every fresh cell empty, and the other cells unchanged.
 fn refuses(folder: &Folder, table: &Cells, options: &str, why: &str) {
     let (ran, list) = rescored(folder, table, options);
     assert_eq!((ran.status, ran.stdout.as_str()), (Some(4), ""), "{}", ran.stderr);
@@ -93,7 +93,7 @@ fn the_list_holds_every_row_ranked_with_its_q_value() {
 
     let scores: Vec<f32> = list.numbers("sage_discriminant_score");
     assert!(scores.windows(2).all(|pair| pair[0] >= pair[1]));
-    // a lesser score has no lesser posterior error
+    // a smaller score has no smaller posterior error
     let errors: Vec<f32> = list.numbers("posterior_error");
     let falls = |place: &usize| scores[*place - 1] > scores[*place] && errors[*place - 1] > errors[*place];
     assert_eq!((1..scores.len()).find(falls), None);
@@ -109,7 +109,7 @@ fn the_list_holds_every_row_ranked_with_its_q_value() {
 }
 
 #[test]
-fn no_stored_score_is_carried_over_or_looked_at() {
+fn no_stored_score_is_read_or_passed_through() {
     let folder = Folder::new("stored");
     let sample = folder.sample(600);
     let (_, list) = rescored(&folder, &sample, "");
@@ -224,7 +224,7 @@ fn proteins_compete_with_their_decoys() {
     let shared = list.column("num_proteins");
     let q: Vec<f32> = list.numbers("protein_q");
     assert!(shared.iter().zip(&q).all(|(count, q)| *count == "1" || *q == 1.0));
-    // rows of one protein have one q-value, and a protein whose best row is ranked later has no lesser one
+    // rows of one protein have one q-value, and a protein whose best row is ranked later has no smaller one
     let mut seen = std::collections::HashMap::new();
     let mut last = 0f32;
     for ((protein, count), q) in list.column("proteins").into_iter().zip(&shared).zip(&q) {
@@ -252,7 +252,7 @@ fn proteins_compete_with_their_decoys() {
 }
 
 #[test]
-fn progress_is_told_where_it_is_asked_for() {
+fn progress_is_shown_where_it_is_asked_for() {
     let folder = Folder::new("progress");
     let (ran, list) = rescored(&folder, &folder.sample(600), "--progress");
     assert_eq!(ran.status, Some(0));

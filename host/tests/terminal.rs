@@ -1,4 +1,4 @@
-//! Progress on a terminal: told after a second, and never where standard error is none.
+//! Progress is shown on a terminal after a second, and not where standard error is no terminal.
 #![cfg(target_os = "linux")]
 
 mod common;
@@ -20,11 +20,12 @@ unsafe extern "C" {
     fn ptsname(terminal: c_int) -> *const c_char;
 }
 
-/// A terminal: the side that is read here, and the side that a program writes to.
+/// A terminal: the side that the test reads, and the side that a program writes to.
 fn terminal() -> (File, File) {
     const READ_AND_WRITE: c_int = 2;
     const OF_NO_SESSION: c_int = 0o400;
-    // SAFETY: the number is that of a file which was opened here, and the name is copied at once; one test has terminals.
+    // SAFETY: the number is that of a file which was opened here, and the name is copied at once; only one test opens
+    // terminals.
     let (ours, name) = unsafe {
         let number = posix_openpt(READ_AND_WRITE | OF_NO_SESSION);
         assert!(number >= 0 && grantpt(number) == 0 && unlockpt(number) == 0);
@@ -34,7 +35,7 @@ fn terminal() -> (File, File) {
     (ours.into(), theirs.unwrap())
 }
 
-/// Rescores a table that comes through a pipe, which ends after a time; what was written on standard error.
+/// Rescores a table that comes through a pipe, which is closed after a time; gives what was written on standard error.
 fn rescored(folder: &Folder, text: &str, time: Duration, on_terminal: bool) -> String {
     let mut command = program();
     command.current_dir(folder.path("")).args(["rescore", "/dev/stdin", "out.tsv"]);
@@ -45,7 +46,7 @@ fn rescored(folder: &Folder, text: &str, time: Duration, on_terminal: bool) -> S
         ours
     });
     let mut child = command.spawn().unwrap();
-    // with the command this process's hold on the terminal's other side ends
+    // this closes the terminal's other side in this process
     drop(command);
     let mut to = child.stdin.take().unwrap();
     to.write_all(text.as_bytes()).unwrap();
@@ -63,14 +64,14 @@ fn rescored(folder: &Folder, text: &str, time: Duration, on_terminal: bool) -> S
 }
 
 #[test]
-fn progress_is_told_on_a_terminal_after_a_second() {
+fn progress_is_shown_on_a_terminal_after_a_second() {
     let folder = Folder::new("terminal");
     let sample = folder.sample(60).text();
     let long = Duration::from_secs(3);
     assert_eq!(rescored(&folder, &sample, Duration::ZERO, true), "");
     assert_eq!(rescored(&folder, &sample, long, false), "");
-    let told = rescored(&folder, &sample, long, true);
-    assert!(told.starts_with("\rvayemuku: rows read: 1 of 60\x1b[K"), "{told:?}");
-    // the line is taken off at the end
-    assert!(told.ends_with("\r\x1b[K") && !told.contains('\n'), "{told:?}");
+    let shown = rescored(&folder, &sample, long, true);
+    assert!(shown.starts_with("\rvayemuku: rows read: 1 of 60\x1b[K"), "{shown:?}");
+    // the line is cleared at the end
+    assert!(shown.ends_with("\r\x1b[K") && !shown.contains('\n'), "{shown:?}");
 }

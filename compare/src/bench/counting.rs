@@ -1,13 +1,14 @@
 //! Modules 5 and 6: spectrum q-values, precursors and the bare ranking, one thread on either side.
 
 use super::{head, in_rounds, nanoseconds, ROUNDS};
+use crate::calls::{picked_precursor, spectrum_q_value};
 use crate::cases::Random;
 use crate::lists::{rising, shuffle, LONGEST};
 use crate::report::{expect, expect_column};
 use crate::sage::{peaks, q_of, room_for, Rows, PEAK_BYTES, ROW_BYTES};
-use crate::vayemuku::{picked_precursor, rank_keys, spectrum_q_value, vayemuku_order_key_f32};
 use sage_core::scoring::Feature;
 use sage_core::{fdr, ml::qvalue};
+use vayemuku_sys::{rank_keys, vayemuku_order_key_f32, Ranking};
 
 /// Numbers of rows, and of rounds.
 const SIZES: [(usize, usize); 2] = [(1_000_000, ROUNDS), (LONGEST, 3)];
@@ -86,7 +87,8 @@ fn precursors(name: &str, rows: usize, rounds: usize) -> Result<(), String> {
     let (mut keys, mut spare, mut q) = (vec![0; rows], vec![0; rows], vec![0.0; rows]);
     let (mut port_count, mut sage_count) = (0, 0);
     let mut port = || {
-        port_count = picked_precursor(&labels, &scores, &mut keys, &mut spare, &mut q).1;
+        let ranking = Ranking { keys: &mut keys, spare: &mut spare, q: &mut q };
+        port_count = picked_precursor(&labels, &scores, ranking).1;
         port_count as u64
     };
     let mut rust = || {
@@ -109,7 +111,7 @@ fn ranking(name: &str, rows: usize, rounds: usize) -> Result<(), String> {
     let (mut keys, mut spare, mut sorted) = (port_keys.clone(), vec![0; rows], rust_rows.clone());
     let port = || {
         keys.copy_from_slice(&port_keys);
-        nanoseconds(&mut || rank_keys(&mut keys, &mut spare).into())
+        nanoseconds(&mut || rank_keys(&mut keys, &mut spare).number.into())
     };
     let rust = || {
         sorted.copy_from_slice(&rust_rows);

@@ -1,14 +1,15 @@
 //! Module 5: a batch of rows and their q-values, one thread on either side.
 
 use super::{head, in_rounds, median, nanoseconds, ROUNDS};
+use crate::calls::{assign_q_value, estimator};
 use crate::cases::Random;
 use crate::fdr::picked::{database, Function, Sage};
-use crate::fdr::reading::Columns;
+use crate::fdr::reading::CompetitionTable;
 use crate::report::{expect, expect_column};
-use crate::vayemuku::fdr::*;
 use sage_core::database::PeptideIx;
 use sage_core::ml::kde::{forcing, on_rayons_thread, Parts};
 use sage_core::scoring::Feature;
+use vayemuku_sys::{add_rows, fresh_table, Batch, Ranking};
 
 /// Rows, slots and bins.
 const ROWS: usize = 1_000_000;
@@ -39,7 +40,7 @@ struct Port {
     slots: Vec<u32>,
     labels: Vec<i32>,
     scores: Vec<f32>,
-    table: Columns,
+    table: CompetitionTable,
     keys: Vec<u64>,
     spare: Vec<u64>,
     q: Vec<f32>,
@@ -58,7 +59,7 @@ impl Port {
             slots: (0..ROWS).map(|_| random.below(SLOTS as u64) as u32).collect(),
             labels,
             scores: places.iter().map(|place| f32::from_bits(1f32.to_bits() - 1 - place)).collect(),
-            table: Columns::fresh(SLOTS),
+            table: CompetitionTable::fresh(SLOTS),
             keys: vec![0; 2 * SLOTS],
             spare: vec![0; 2 * SLOTS],
             q: vec![0.0; ROWS],
@@ -68,17 +69,16 @@ impl Port {
     /// A fresh table, and all rows added to it.
     fn add(&mut self) -> u64 {
         let Port { slots, labels, scores, table, .. } = self;
-        let mut table = table.lend();
-        let numbers = [fresh_table(&mut table), add_rows(Batch { slots, labels, scores }, &mut table)];
-        numbers.iter().map(|number| u64::from(*number)).sum()
+        let fresh = fresh_table(table.columns_mut());
+        let added = add_rows(Batch { slots, labels, scores }, table.columns_mut());
+        u64::from(fresh.number) + u64::from(added.number)
     }
 
     /// The number and the count of q-values.
     fn assign(&mut self, function: Function, parts: &Parts) -> (u32, usize) {
         let Port { slots, labels, table, keys, spare, q, .. } = self;
-        let errors = Errors { min_score: parts.min_score, score_step: parts.score_step, bins: &parts.bins };
         let two_names = u32::from(matches!(function, Function::Protein));
-        assign_q_value(two_names, errors, &table.lend(), slots, labels, &mut Filled { keys, spare, q })
+        assign_q_value(two_names, estimator(parts), table.columns(), (slots, labels), Ranking { keys, spare, q })
     }
 }
 

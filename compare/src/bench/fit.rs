@@ -1,14 +1,16 @@
 //! Modules 2 and 3: elimination, the fit and the scoring run, one thread on either side.
 
 use super::{head, in_rounds, nanoseconds, ROUNDS};
+use crate::calls::{train, Row};
 use crate::cases::Random;
 use crate::fit::systems::{gram, moderate, System};
 use crate::lists::label;
 use crate::report::{expect, expect_column};
-use crate::vayemuku::fit::{score_rows, train, vayemuku_solve, Row, WIDTH};
+use host::FEATURES;
 use sage_core::ml::gauss::Gauss;
 use sage_core::ml::linear_discriminant::LinearDiscriminantAnalysis;
 use sage_core::ml::matrix::Matrix;
+use vayemuku_sys::{score_rows, solve};
 
 /// Sizes of systems, and how many different ones there are of each.
 const SIZES: [usize; 3] = [2, 8, 20];
@@ -23,7 +25,7 @@ const ROWS: [(usize, usize, usize); 3] = [(1_000, 10, 101), (100_000, 1, 31), (1
 /// Times a call under a name, at a number of rows, of calls and of rounds.
 type Timed = fn(&str, (usize, usize, usize)) -> Result<(), String>;
 
-/// Says what is part of whose time, and prints the head of the table.
+/// Prints what each side's time includes, and the head of the table.
 fn print_head() {
     println!("One thread on either side.");
     println!(
@@ -35,7 +37,7 @@ fn print_head() {
     println!("is handed twenty rows of twenty numbers whatever the size; that it copies them is part of its time.");
     println!("train: random rows, half of them decoys at random. sage's feat_fn copies a row of the port's feature");
     println!("column; its decoy marks are made before the clock starts. The port reads labels. Solving the system of");
-    println!("size {WIDTH} is part of both times.");
+    println!("size {FEATURES} is part of both times.");
     println!(
         "score: scores of random sign and size, and those narrowed, into two columns that are allocated before the"
     );
@@ -48,7 +50,7 @@ fn print_head() {
 pub fn run() -> bool {
     print_head();
     let mut same = true;
-    let mut told = |name: String, timed: Result<(), String>| {
+    let mut report = |name: String, timed: Result<(), String>| {
         if let Err(words) = timed {
             println!("{name}: {words}");
             same = false;
@@ -57,13 +59,13 @@ pub fn run() -> bool {
     for (words, fails) in [("first eps", false), ("no eps", true)] {
         for size in SIZES {
             let name = format!("solve {size}, {words}");
-            told(name.clone(), solving(&name, size, fails));
+            report(name.clone(), solving(&name, size, fails));
         }
     }
     for (words, time) in [("train", training as Timed), ("score", scoring)] {
         for size in ROWS {
             let name = format!("{words}, {}", size.0);
-            told(name.clone(), time(&name, size));
+            report(name.clone(), time(&name, size));
         }
     }
     same
@@ -94,11 +96,11 @@ fn solving(name: &str, size: usize, fails: bool) -> Result<(), String> {
     let first = |(left, right): &&(Matrix, Matrix)| Gauss::solve_inner(left.clone(), right.clone(), 1E-8).is_some();
     let solvable = if fails { 0 } else { SYSTEMS };
     expect("systems that the first eps solves", sides.iter().filter(first).count(), solvable)?;
-    let mut values = vec![[0.0; WIDTH]; SYSTEMS];
+    let mut values = vec![[0.0; FEATURES]; SYSTEMS];
     let mut answers: Vec<Option<Matrix>> = Vec::with_capacity(SYSTEMS);
     let mut port = || {
         let solved = systems.iter().zip(&mut values);
-        solved.map(|(system, values)| u64::from(vayemuku_solve(&system.left, &system.right, size, values))).sum()
+        solved.map(|(system, values)| u64::from(solve(&system.left, &system.right, size, values).number)).sum()
     };
     let mut rust = || {
         answers.clear();
@@ -123,7 +125,7 @@ fn training(name: &str, (rows, calls, rounds): (usize, usize, usize)) -> Result<
     let features: Vec<Row> = (0..rows).map(|_| std::array::from_fn(|_| moderate(&mut random))).collect();
     let labels: Vec<i32> = (0..rows).map(|place| label(random.below(2) == 0, place)).collect();
     let decoys: Vec<bool> = labels.iter().map(|label| *label == -1).collect();
-    let mut answer = (0, [0.0; WIDTH]);
+    let mut answer = (0, [0.0; FEATURES]);
     let mut fit = None;
     let mut port = || {
         (0..calls).for_each(|_| answer = train(features.as_flattened(), &labels));
@@ -153,7 +155,7 @@ fn scoring(name: &str, (rows, calls, rounds): (usize, usize, usize)) -> Result<(
     let (mut scores, mut narrowed) = (vec![1.0; rows], vec![1.0; rows]);
     let (mut sage_scores, mut sage_narrowed) = (scores.clone(), narrowed.clone());
     let mut port = || {
-        let call = |_| u64::from(score_rows(&coefficients, features.as_flattened(), &mut scores, &mut narrowed));
+        let call = |_| u64::from(score_rows(&coefficients, features.as_flattened(), &mut scores, &mut narrowed).number);
         (0..calls).map(call).sum()
     };
     let mut rust = || {

@@ -3,8 +3,8 @@
 use super::{head, side_by_side, ROUNDS};
 use crate::cases::Random;
 use crate::report::Answer;
-use crate::vayemuku::*;
 use std::hint::black_box;
+use vayemuku_sys::*;
 
 const CALLS: usize = 1_000_000;
 

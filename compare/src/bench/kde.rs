@@ -1,13 +1,14 @@
 //! Module 4: columns of posterior errors and of their logarithms, and both steps of a build without its kernel.
 
 use super::{head, side_by_side, ROUNDS};
+use crate::calls::{bin_scores, estimator};
 use crate::cases::Random;
 use crate::kde::draws::between;
 use crate::kde::reading::{bin_score, log_error};
 use crate::lists::label;
 use crate::report::{expect_column, Answer};
-use crate::vayemuku::kde::{bin_scores, log_errors, posterior_bins, posterior_errors, Densities};
 use sage_core::ml::kde::{Estimator, Parts};
+use vayemuku_sys::{log_errors, posterior_bins, posterior_errors};
 
 /// Rows and bins.
 const ROWS: usize = 1_000_000;
@@ -36,7 +37,7 @@ pub fn run() -> bool {
 }
 
 /// Falling bins from -5 to 5.
-fn estimator(random: &mut Random) -> Parts {
+fn falling_bins(random: &mut Random) -> Parts {
     let bins = (0..BINS).map(|bin| 1.0 - (bin as f64 + between(random, 0.0, 1.0)) / BINS as f64).collect();
     Parts { bins, min_score: -5.0, score_step: 10.0 / (BINS - 1) as f64 }
 }
@@ -44,13 +45,12 @@ fn estimator(random: &mut Random) -> Parts {
 /// Posterior errors.
 fn errors() -> Result<(), String> {
     let mut random = Random::new(12);
-    let parts = estimator(&mut random);
+    let parts = falling_bins(&mut random);
     let scores: Vec<f64> = (0..ROWS).map(|_| between(&mut random, -10.0, 10.0)).collect();
     let sage = Estimator::from_parts(parts.clone());
-    let Parts { bins, min_score, score_step } = &parts;
     let [mut port_errors, mut called, mut inlined] = [(); 3].map(|()| vec![0.0; ROWS]);
     let mut port = || {
-        let number = posterior_errors(*min_score, *score_step, bins, &scores, &mut port_errors);
+        let number = posterior_errors(estimator(&parts), &scores, &mut port_errors).number;
         u64::from(number) + port_errors[ROWS / 2].pattern()
     };
     let call = || {
@@ -98,10 +98,9 @@ fn step_two() -> Result<(), String> {
     let mut random = Random::new(14);
     let labels: Vec<i32> = (0..ROWS).map(|place| label(random.below(3) == 0, place)).collect();
     let [decoy, target] = [(); 2].map(|()| (0..BINS).map(|_| between(&mut random, 0.0, 1.0)).collect::<Vec<f64>>());
-    let densities = Densities { decoy: &decoy, target: &target };
     let [mut port_bins, mut bins] = [(); 2].map(|()| vec![0.0; BINS]);
     let port = || {
-        let number = posterior_bins(1, BINS, &labels, densities, &mut port_bins);
+        let number = posterior_bins(1, BINS, &labels, &decoy, &target, &mut port_bins).number;
         u64::from(number) + port_bins[0].pattern()
     };
     let rust = || {
@@ -131,7 +130,7 @@ fn logs() -> Result<(), String> {
     let log10s: Vec<f64> = errors.iter().map(|error| error.log10()).collect();
     let (mut host, mut port_logs, mut rust_logs) = (vec![0.0; ROWS], vec![0f32; ROWS], vec![0f32; ROWS]);
     let port = || {
-        let number = log_errors(&log10s, &mut port_logs);
+        let number = log_errors(&log10s, &mut port_logs).number;
         u64::from(number) + port_logs[ROWS / 2].pattern()
     };
     let rust = || {
@@ -142,7 +141,7 @@ fn logs() -> Result<(), String> {
     expect_column("logarithm", &port_logs, rust_logs.iter().copied())?;
     let port = || {
         host.iter_mut().zip(&errors).for_each(|(log10, error)| *log10 = error.log10());
-        let number = log_errors(&host, &mut port_logs);
+        let number = log_errors(&host, &mut port_logs).number;
         u64::from(number) + port_logs[ROWS / 2].pattern()
     };
     let rust = || {

@@ -3,9 +3,9 @@
 use crate::cases::Random;
 use crate::lists::LONGEST;
 use crate::report::{expect, expect_all, expect_column, Tally};
-use crate::vayemuku::rank_keys;
+use vayemuku_sys::rank_keys;
 
-/// What stands in a working column before a call.
+/// The contents of a working column before a call.
 const GARBAGE: u64 = 0x5a5a_5a5a_5a5a_5a5a;
 
 /// Compares columns of every length under `columns`, of lengths beside powers of two and of the greatest length, and
@@ -26,12 +26,12 @@ pub fn run(columns: usize) -> bool {
     tally.print()
 }
 
-/// The keys of a column come back in ascending order, and the working column holds 0.
+/// Keys are returned in ascending order, and the working column holds 0.
 fn compared(mut keys: Vec<u64>) -> Result<(), String> {
     let mut wanted = keys.clone();
     wanted.sort_unstable();
     let mut spare = vec![GARBAGE; keys.len()];
-    let number = rank_keys(&mut keys, &mut spare);
+    let number = rank_keys(&mut keys, &mut spare).number;
     expect("number", number, 0)
         .and_then(|()| expect_column("key", &keys, wanted.into_iter()))
         .and_then(|()| expect_all("spare afterwards", &spare, 0))
@@ -41,7 +41,7 @@ fn compared(mut keys: Vec<u64>) -> Result<(), String> {
 /// Columns of these lengths are refused, and hold 0 in every place afterwards.
 fn refused(keys: usize, spare: usize, wanted: u32) -> Result<(), String> {
     let (mut keys, mut spare) = (vec![GARBAGE; keys], vec![GARBAGE; spare]);
-    let number = rank_keys(&mut keys, &mut spare);
+    let number = rank_keys(&mut keys, &mut spare).number;
     expect("number", number, wanted)
         .and_then(|()| expect_all("keys afterwards", &keys, 0))
         .and_then(|()| expect_all("spare afterwards", &spare, 0))

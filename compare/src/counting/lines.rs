@@ -1,11 +1,13 @@
 //! Line checks beside a direct reading of demand 3.
 
+use super::described;
 use super::reading::Counted;
-use super::told;
+use crate::calls::check_line;
 use crate::cases::Random;
 use crate::lists::{label, LONGEST};
 use crate::report::{expect, Tally};
-use crate::vayemuku::{check_line, Checked, Rate};
+use host::Rate;
+use vayemuku_sys::Checked;
 
 /// A tally for each rate.
 pub struct Lines([(Rate, Tally); 2]);
@@ -16,12 +18,12 @@ impl Lines {
         Lines([(Rate::OneIn100, Tally::new("check_line_100")), (Rate::OneIn20, Tally::new("check_line_20"))])
     }
 
-    /// Compares every line of a list, and holds that exactly one is right.
+    /// Compares every line of a list, and checks that exactly one is right.
     pub fn all(&mut self, labels: &[i32], counted: &Counted) {
         for (rate, tally) in &mut self.0 {
-            let rights = (0..=labels.len()).map(|line| compared(*rate, tally, labels, counted, line)).sum();
+            let rights = (0..=labels.len()).map(|line| compared(labels, line, *rate, counted, tally)).sum();
             let outcome = expect("lines that are right", rights, 1);
-            tally.outcome(outcome.map_err(|fault| format!("{fault}, in {}", told(labels))));
+            tally.outcome(outcome.map_err(|fault| format!("{fault}, in {}", described(labels))));
         }
     }
 
@@ -32,7 +34,7 @@ impl Lines {
             let right = counted.right_line(*rate);
             let mut any = || random.below(last as u64 + 1) as usize;
             for line in [0, last, right, right.saturating_sub(1), last.min(right + 1), any(), any(), any()] {
-                compared(*rate, tally, labels, counted, line);
+                compared(labels, line, *rate, counted, tally);
             }
         }
     }
@@ -54,9 +56,9 @@ impl Lines {
 
     /// A check of this line is refused, and every number returned is 0.
     fn refusal(&mut self, labels: &[i32], line: usize, number: u32) {
-        let wanted = Checked { number, right: 0, row: 0, decoys: 0, targets: 0 };
+        let wanted = (number, Checked::default());
         for (rate, tally) in &mut self.0 {
-            let port = check_line(*rate, labels, line);
+            let port = check_line(labels, line, *rate);
             tally.outcome(expect(&format!("line {line} of {} rows", labels.len()), port, wanted));
         }
     }
@@ -69,10 +71,10 @@ impl Lines {
 }
 
 /// Compares the check of one line, and gives what it says: 1 for right.
-fn compared(rate: Rate, tally: &mut Tally, labels: &[i32], counted: &Counted, line: usize) -> u32 {
-    let (port, wanted) = (check_line(rate, labels, line), counted.checked(rate, line));
+fn compared(labels: &[i32], line: usize, rate: Rate, counted: &Counted, tally: &mut Tally) -> u32 {
+    let (port, wanted) = (check_line(labels, line, rate), (0, counted.checked(line, rate)));
     tally.count(port == wanted, || {
-        format!("line {line}: port {port:?}, and it should be {wanted:?}, in {}", told(labels))
+        format!("line {line}: port {port:?}, and it should be {wanted:?}, in {}", described(labels))
     });
-    port.right
+    port.1.right
 }

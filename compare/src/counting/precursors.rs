@@ -1,22 +1,24 @@
 //! Precursors beside sage where their scores differ, and beside the order of document 01 where they do not.
 
 use super::reading::{self, ranked, Counted};
-use super::{expect_passing, told, BEHIND, EVERY, HEADS};
+use super::{described, expect_passing, BEHIND, EVERY, HEADS};
+use crate::calls::{check_line, picked_precursor};
 use crate::cases::Random;
 use crate::lists::{blocks, distinct_scores, each_pattern, label, random_labels, shuffle, tied_scores, LONGEST};
 use crate::report::{expect, expect_all, expect_column, Tally};
 use crate::sage;
-use crate::vayemuku::{check_line, picked_precursor, precursor_ranks, Rate};
+use host::Rate;
+use vayemuku_sys::{precursor_order, Ranking};
 
-/// What stands in working and result columns before a call.
+/// The contents of working and result columns before a call.
 const GARBAGE: u64 = 0x5a5a_5a5a_5a5a_5a5a;
 const GARBAGE_Q: f32 = 0.025;
-const GARBAGE_RANK: u32 = 77;
+const GARBAGE_PLACE: u32 = 77;
 
 /// The blank of a whole number.
 const BLANK: u32 = u32::MAX;
 
-/// Compares both calls on as many random lists of either sort, and says whether nothing differed.
+/// Compares both calls on `lists` random lists of either sort, and says whether nothing differed.
 pub fn run(lists: u64) -> bool {
     let mut calls = Precursors::new();
     each_pattern(0, EVERY, |labels| calls.distinct(labels));
@@ -30,22 +32,22 @@ pub fn run(lists: u64) -> bool {
     }
     calls.longest();
     calls.refusals();
-    let same = [calls.picked.print(), calls.ranks.print()];
+    let same = [calls.picked.print(), calls.order.print()];
     same.iter().all(|same| *same)
 }
 
 /// A tally of each call.
 struct Precursors {
     picked: Tally,
-    ranks: Tally,
+    order: Tally,
     random: Random,
 }
 
 impl Precursors {
     /// Nothing compared yet.
     fn new() -> Self {
-        let (picked, ranks) = (Tally::new("picked_precursor"), Tally::new("precursor_ranks"));
-        Precursors { picked, ranks, random: Random::new(6) }
+        let (picked, order) = (Tally::new("picked_precursor"), Tally::new("precursor_order"));
+        Precursors { picked, order, random: Random::new(6) }
     }
 
     /// Labels as ranked by scores that differ, put into random order, beside sage.
@@ -88,17 +90,17 @@ impl Precursors {
         self.tied(&labels);
     }
 
-    /// Compares one list: q-values and count with those wanted, ranks with the places as ranked.
+    /// Compares one list: q-values and count with those wanted, and the order with the places as ranked.
     fn compare(&mut self, labels: &[i32], scores: &[f64], places: &[u32], wanted: (Vec<f32>, usize)) {
         let mut columns = Columns::new([labels.len(); 4]);
-        let ranks = columns.ranks_are(scores, places);
-        let right_ranks = ranks.is_ok();
-        let picked = columns.q_values_are(labels, scores, wanted).and_then(|count| match right_ranks {
+        let order = columns.order_is(scores, places);
+        let right_order = order.is_ok();
+        let picked = columns.q_values_are(labels, scores, wanted).and_then(|count| match right_order {
             true => columns.passed_up_to_the_line(labels, count),
             false => Ok(()),
         });
-        let fault = |fault| format!("{fault}, in {}", told(labels));
-        self.ranks.outcome(ranks.map_err(fault));
+        let fault = |fault| format!("{fault}, in {}", described(labels));
+        self.order.outcome(order.map_err(fault));
         self.picked.outcome(picked.map_err(fault));
     }
 
@@ -108,7 +110,7 @@ impl Precursors {
             self.picked_refusal(lengths, 2);
         }
         for lengths in every_length::<4>().filter(|lengths| *lengths != [lengths[0]; 4]) {
-            self.ranks_refusal(lengths, 2);
+            self.order_refusal(lengths, 2);
         }
         let long = LONGEST + 1;
         for (place, number) in [(0, 1), (1, 1), (2, 2), (3, 2), (4, 2)] {
@@ -117,14 +119,14 @@ impl Precursors {
             self.picked_refusal(with([5_000; 5], place, 5_001), 2);
         }
         for (place, number) in [(0, 1), (1, 2), (2, 2), (3, 2)] {
-            self.ranks_refusal(with([3; 4], place, long), number);
-            self.ranks_refusal(with([5_000; 4], place, 4_999), 2);
-            self.ranks_refusal(with([5_000; 4], place, 5_001), 2);
+            self.order_refusal(with([3; 4], place, long), number);
+            self.order_refusal(with([5_000; 4], place, 4_999), 2);
+            self.order_refusal(with([5_000; 4], place, 5_001), 2);
         }
         self.picked_refusal([long; 5], 1);
         self.picked_refusal([LONGEST, LONGEST, LONGEST, LONGEST, long], 2);
-        self.ranks_refusal([long; 4], 1);
-        self.ranks_refusal([LONGEST, LONGEST, LONGEST, long], 2);
+        self.order_refusal([long; 4], 1);
+        self.order_refusal([LONGEST, LONGEST, LONGEST, long], 2);
     }
 
     /// picked_precursor refuses labels, scores, keys, spare and q of these lengths, and leaves blanks.
@@ -139,45 +141,46 @@ impl Precursors {
         self.picked.outcome(outcome.map_err(|fault| format!("{fault}, lengths {lengths:?}")));
     }
 
-    /// precursor_ranks refuses scores, keys, spare and ranks of these lengths, and leaves blanks.
-    fn ranks_refusal(&mut self, lengths: [usize; 4], wanted: u32) {
-        let [scores, keys, spare, ranks] = lengths;
-        let mut columns = Columns::new([keys, spare, 0, ranks]);
+    /// precursor_order refuses scores, keys, spare and order of these lengths, and leaves blanks.
+    fn order_refusal(&mut self, lengths: [usize; 4], wanted: u32) {
+        let [scores, keys, spare, order] = lengths;
+        let mut columns = Columns::new([keys, spare, 0, order]);
         let number = columns.rank(&some_scores(scores));
         let outcome = expect("number", number, wanted)
-            .and_then(|()| expect_all("ranks", &columns.ranks, BLANK))
+            .and_then(|()| expect_all("order", &columns.order, BLANK))
             .and_then(|()| columns.cleared());
-        self.ranks.outcome(outcome.map_err(|fault| format!("{fault}, lengths {lengths:?}")));
+        self.order.outcome(outcome.map_err(|fault| format!("{fault}, lengths {lengths:?}")));
     }
 }
 
-/// The columns that are lent to a call.
+/// The working and result columns of a call.
 struct Columns {
     keys: Vec<u64>,
     spare: Vec<u64>,
     q: Vec<f32>,
-    ranks: Vec<u32>,
+    order: Vec<u32>,
 }
 
 impl Columns {
     /// Columns of these lengths, full of garbage.
-    fn new([keys, spare, q, ranks]: [usize; 4]) -> Self {
+    fn new([keys, spare, q, order]: [usize; 4]) -> Self {
         let (keys, spare) = (vec![GARBAGE; keys], vec![GARBAGE; spare]);
-        Columns { keys, spare, q: vec![GARBAGE_Q; q], ranks: vec![GARBAGE_RANK; ranks] }
+        Columns { keys, spare, q: vec![GARBAGE_Q; q], order: vec![GARBAGE_PLACE; order] }
     }
 
     /// The call that gives q-values, on working columns full of garbage.
     fn pick(&mut self, labels: &[i32], scores: &[f64]) -> (u32, usize) {
         self.keys.fill(GARBAGE);
         self.spare.fill(GARBAGE);
-        picked_precursor(labels, scores, &mut self.keys, &mut self.spare, &mut self.q)
+        let Columns { keys, spare, q, .. } = self;
+        picked_precursor(labels, scores, Ranking { keys, spare, q })
     }
 
-    /// The call that gives ranks, on working columns full of garbage.
+    /// The call that gives the order, on working columns full of garbage.
     fn rank(&mut self, scores: &[f64]) -> u32 {
         self.keys.fill(GARBAGE);
         self.spare.fill(GARBAGE);
-        precursor_ranks(scores, &mut self.keys, &mut self.spare, &mut self.ranks)
+        precursor_order(scores, &mut self.keys, &mut self.spare, &mut self.order).number
     }
 
     /// Both working columns hold 0 in every place.
@@ -186,15 +189,11 @@ impl Columns {
         expect_all("spare afterwards", &self.spare, 0)
     }
 
-    /// The rank of the place that is ranked first is 1, and so on.
-    fn ranks_are(&mut self, scores: &[f64], places: &[u32]) -> Result<(), String> {
+    /// The order is the places as ranked.
+    fn order_is(&mut self, scores: &[f64], places: &[u32]) -> Result<(), String> {
         let number = self.rank(scores);
-        let mut wanted = vec![0; places.len()];
-        for (&place, rank) in places.iter().zip(1..) {
-            wanted[place as usize] = rank;
-        }
         expect("number", number, 0)?;
-        expect_column("rank", &self.ranks, wanted.into_iter())?;
+        expect_column("place at rank", &self.order, places.iter().copied())?;
         self.cleared()
     }
 
@@ -208,23 +207,22 @@ impl Columns {
         Ok(count)
     }
 
-    /// By the ranks, precursors at or under 0.05 are those up to the right one-in-20 line of the labels as ranked, and
+    /// In the order, precursors at or under 0.05 are those up to the right one-in-20 line of the labels as ranked, and
     /// the count is the targets up to it.
     fn passed_up_to_the_line(&self, labels: &[i32], count: usize) -> Result<(), String> {
-        let mut as_ranked = vec![0; labels.len()];
-        for (&rank, &label) in self.ranks.iter().zip(labels) {
-            as_ranked[rank as usize - 1] = label;
-        }
+        let as_ranked: Vec<i32> = self.order.iter().map(|&place| labels[place as usize]).collect();
         let counted = Counted::new(&as_ranked);
         let line = counted.right_line(Rate::OneIn20);
-        let checked = check_line(Rate::OneIn20, &as_ranked, line);
-        expect("the check of the right line", checked, counted.checked(Rate::OneIn20, line))?;
-        expect("count beside the right line's targets", count, checked.targets)?;
-        expect_passing(&self.q, 0.05, |place| self.ranks[place] as usize <= line)
+        let checked = check_line(&as_ranked, line, Rate::OneIn20);
+        expect("the check of the right line", checked, (0, counted.checked(line, Rate::OneIn20)))?;
+        expect("count beside the right line's targets", count, checked.1.targets)?;
+        let mut passes = vec![false; labels.len()];
+        self.order[..line].iter().for_each(|&place| passes[place as usize] = true);
+        expect_passing(&self.q, 0.05, |place| passes[place])
     }
 }
 
-/// Every choice of as many lengths from 0 to 3.
+/// Every choice of lengths from 0 to 3.
 fn every_length<const COLUMNS: usize>() -> impl Iterator<Item = [usize; COLUMNS]> {
     (0..1usize << (2 * COLUMNS)).map(|choice| std::array::from_fn(|column| choice >> (2 * column) & 3))
 }

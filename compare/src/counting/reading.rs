@@ -2,9 +2,10 @@
 
 use crate::cases::Float;
 use crate::report::Answer;
-use crate::vayemuku::{Checked, Rate};
+use host::Rate;
+use vayemuku_sys::Checked;
 
-/// Decoys up to each row of a list; row 0 stands before the first.
+/// Decoys up to each row of a list; row 0 comes before the first.
 pub struct Counted(Vec<usize>);
 
 impl Counted {
@@ -29,31 +30,34 @@ impl Counted {
     }
 
     /// Whether the rate times decoys plus one is at most the targets.
-    fn qualifies(&self, rate: Rate, row: usize) -> bool {
-        rate as usize * (self.0[row] + 1) <= self.targets(row)
+    fn qualifies(&self, row: usize, rate: Rate) -> bool {
+        let per_decoy = match rate {
+            Rate::OneIn100 => 100,
+            Rate::OneIn20 => 20,
+        };
+        per_decoy * (self.0[row] + 1) <= self.targets(row)
     }
 
     /// The last row after a line that qualifies.
-    fn last_later(&self, rate: Rate, line: usize) -> Option<usize> {
-        (line + 1..=self.length()).rev().find(|&row| self.qualifies(rate, row))
+    fn last_later(&self, line: usize, rate: Rate) -> Option<usize> {
+        (line + 1..=self.length()).rev().find(|&row| self.qualifies(row, rate))
     }
 
     /// Demand 3: no later row qualifies, and the line is zero or its own row does.
-    fn is_right(&self, rate: Rate, line: usize) -> bool {
-        self.last_later(rate, line).is_none() && (line == 0 || self.qualifies(rate, line))
+    fn is_right(&self, line: usize, rate: Rate) -> bool {
+        self.last_later(line, rate).is_none() && (line == 0 || self.qualifies(line, rate))
     }
 
     /// The line that is right.
     pub fn right_line(&self, rate: Rate) -> usize {
-        self.last_later(rate, 0).unwrap_or(0)
+        self.last_later(0, rate).unwrap_or(0)
     }
 
     /// What the check of a line should return.
-    pub fn checked(&self, rate: Rate, line: usize) -> Checked {
-        let right = self.is_right(rate, line);
-        let row = self.last_later(rate, line).unwrap_or(line);
-        let (decoys, targets) = (self.0[row] + 1, self.targets(row));
-        Checked { number: 0, right: right.into(), row, decoys, targets }
+    pub fn checked(&self, line: usize, rate: Rate) -> Checked {
+        let right = self.is_right(line, rate);
+        let row = self.last_later(line, rate).unwrap_or(line);
+        Checked { right: right.into(), row, decoys_plus_one: self.0[row] + 1, targets: self.targets(row) }
     }
 
     /// The q-value of each row: the least of 1 and of decoys plus one over targets, from the row down.

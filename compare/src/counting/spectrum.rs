@@ -1,13 +1,14 @@
 //! Spectrum q-values beside sage's.
 
 use super::reading::Counted;
-use super::{expect_passing, told};
+use super::{described, expect_passing};
+use crate::calls::spectrum_q_value;
 use crate::lists::{label, LONGEST};
 use crate::report::{expect, expect_all, expect_column, Tally};
 use crate::sage::Rows;
-use crate::vayemuku::{spectrum_q_value, Rate};
+use host::Rate;
 
-/// What stands in a q column before a call.
+/// The contents of a q column before a call.
 const GARBAGE: f32 = 0.005;
 
 /// The tally, sage's rows, and the port's column.
@@ -26,7 +27,7 @@ impl Spectrum {
     /// Compares one list.
     pub fn check(&mut self, labels: &[i32], counted: &Counted) {
         let outcome = self.compared(labels, counted);
-        self.tally.outcome(outcome.map_err(|fault| format!("{fault}, in {}", told(labels))));
+        self.tally.outcome(outcome.map_err(|fault| format!("{fault}, in {}", described(labels))));
     }
 
     /// The port's column and count are sage's, and pass exactly the rows up to the right one-in-100 line.

@@ -1,12 +1,13 @@
 //! Module 6.
 
-use super::part;
+use super::check;
+use crate::calls::{picked_precursor, spectrum_q_value};
 use crate::sage::Rows;
-use crate::vayemuku::{picked_precursor, spectrum_q_value};
 use fnv::FnvHashMap;
 use sage_core::database::PeptideIx;
 use sage_core::lfq::{Peak, PrecursorId};
 use std::collections::BTreeSet;
+use vayemuku_sys::Ranking;
 
 /// Two targets and a decoy.
 const LABELS: [i32; 3] = [1, 1, -1];
@@ -28,14 +29,14 @@ fn sage(first: u32, scores: [f64; 3]) -> [f32; 3] {
 /// The port's.
 fn port(scores: [f64; 3]) -> [f32; 3] {
     let (mut keys, mut spare, mut q) = ([5; 3], [5; 3], [0.25; 3]);
-    picked_precursor(&LABELS, &scores, &mut keys, &mut spare, &mut q);
+    picked_precursor(&LABELS, &scores, Ranking { keys: &mut keys, spare: &mut spare, q: &mut q });
     q
 }
 
 /// Equal scores: sage's answers under several numbers of the same three peptides.
 fn tied() -> bool {
     let answers: BTreeSet<String> = (0..16).map(|first| format!("{:?}", sage(first, [1.0; 3]))).collect();
-    part(
+    check(
         "two target precursors and a decoy, all scored 1.0",
         (answers, "{\"[0.5, 0.5, 1.0]\", \"[1.0, 1.0, 1.0]\"}"),
         (port([1.0; 3]), "[0.5, 0.5, 1.0]"),
@@ -46,7 +47,7 @@ fn tied() -> bool {
 fn nan() -> bool {
     let scores = [1.0, 0.0, -f64::NAN];
     let (sage, port) = (sage(0, scores), port(scores));
-    part("targets 1.0 and 0.0, a decoy -NaN", (sage, "[0.5, 0.5, 1.0]"), (port, "[1.0, 1.0, 1.0]"))
+    check("targets 1.0 and 0.0, a decoy -NaN", (sage, "[0.5, 0.5, 1.0]"), (port, "[1.0, 1.0, 1.0]"))
 }
 
 /// Labels that are neither -1 nor 1.
@@ -56,5 +57,5 @@ fn labels() -> bool {
     let sage: Vec<f32> = rows.spectrum(&labels).0.collect();
     spectrum_q_value(&labels, &mut q);
     let third = "[0.33333334, 0.33333334, 0.33333334]";
-    part("spectra labelled 0, 7 and -2", (sage, third), (q, third))
+    check("spectra labelled 0, 7 and -2", (sage, third), (q, third))
 }

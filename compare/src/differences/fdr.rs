@@ -1,10 +1,10 @@
 //! Module 5.
 
-use super::part;
+use super::check;
+use crate::calls::{assign_q_value, estimator};
 use crate::fdr::draws::Rows;
-use crate::fdr::reading::{Columns, NO_PART};
+use crate::fdr::reading::{CompetitionTable, NO_PART};
 use crate::fdr::tables::rows as columns;
-use crate::vayemuku::fdr::{add_rows, assign_q_value, fresh_table, winners, Errors, Filled};
 use fnv::FnvHashMap;
 use sage_core::database::{IndexedDatabase, PeptideIx};
 use sage_core::fdr::{opened, picked_protein, picked_protein_group, Competition};
@@ -12,6 +12,7 @@ use sage_core::ml::kde::{forcing, recording, Build, Parts};
 use sage_core::peptide::Peptide;
 use sage_core::scoring::Feature;
 use std::collections::BTreeSet;
+use vayemuku_sys::{add_rows, fresh_table, winners, Ranking};
 
 /// The field of a q-value before a call.
 const BEFORE: f32 = 0.5;
@@ -31,7 +32,7 @@ fn bins(bins: &[f64]) -> Parts {
     Parts { bins: bins.to_vec(), min_score: 0.0, score_step: 1.0 }
 }
 
-/// A database of two proteins, each with a target peptide and a decoy behind it.
+/// A database of two proteins, each with a target peptide and then a decoy.
 fn database(names: [&str; 2], generate_decoys: bool) -> IndexedDatabase {
     let of = |decoy, name: &str| Peptide { decoy, proteins: vec![name.into()], ..Peptide::default() };
     let peptides = names.iter().flat_map(|name| [of(false, name), of(true, name)]).collect();
@@ -53,27 +54,39 @@ fn sage(db: &IndexedDatabase, rows: &[Row], parts: &Parts) -> (Vec<f32>, usize) 
 }
 
 /// The port's table of two slots with these rows.
-fn table(rows: &[Row]) -> Columns {
-    let mut table =
-        Columns { forward: vec![0.5; 2], reverse: vec![0.5; 2], forward_seen: vec![5; 2], reverse_seen: vec![5; 2] };
-    fresh_table(&mut table.lend());
-    add_rows(columns(rows).all(), &mut table.lend());
+fn table(rows: &[Row]) -> CompetitionTable {
+    let mut table = CompetitionTable {
+        forward: vec![0.5; 2],
+        reverse: vec![0.5; 2],
+        forward_seen: vec![5; 2],
+        reverse_seen: vec![5; 2],
+    };
+    let fresh = fresh_table(table.columns_mut());
+    let added = add_rows(columns(rows).all(), table.columns_mut());
+    assert_eq!((fresh.number, added.number), (0, 0));
     table
 }
 
 /// The port's q-values of rows in a table, and its count; `two_names` is 0 for one name.
-fn assigned(two_names: u32, table: &mut Columns, rows: &[Row], parts: &Parts) -> (Vec<f32>, usize) {
+fn assigned(two_names: u32, table: &CompetitionTable, rows: &[Row], parts: &Parts) -> (Vec<f32>, usize) {
     let Rows { slots, labels, .. } = columns(rows);
     let (mut keys, mut spare, mut q) = ([5; 4], [5; 4], vec![BEFORE; rows.len()]);
-    let errors = Errors { min_score: parts.min_score, score_step: parts.score_step, bins: &parts.bins };
-    let mut filled = Filled { keys: &mut keys, spare: &mut spare, q: &mut q };
-    let (_, count) = assign_q_value(two_names, errors, &table.lend(), &slots, &labels, &mut filled);
+    let ranking = Ranking { keys: &mut keys, spare: &mut spare, q: &mut q };
+    let (_, count) = assign_q_value(two_names, estimator(parts), table.columns(), (&slots, &labels), ranking);
     (q, count)
 }
 
-/// The same from rows alone.
+/// The port's winners of a table of two slots: scores, and whether they are decoys.
+fn port_winners(table: &CompetitionTable) -> ([f32; 2], [u32; 2]) {
+    let (mut scores, mut is_decoy) = ([0.5; 2], [5; 2]);
+    let returned = winners(table.columns(), &mut scores, &mut is_decoy);
+    assert_eq!(returned.number, 0);
+    (scores, is_decoy)
+}
+
+/// The port's q-values of rows in a table of them alone, and its count.
 fn port(two_names: u32, rows: &[Row], parts: &Parts) -> (Vec<f32>, usize) {
-    assigned(two_names, &mut table(rows), rows, parts)
+    assigned(two_names, &table(rows), rows, parts)
 }
 
 /// A row labelled as a decoy whose peptide is a target.
@@ -82,20 +95,20 @@ fn label_and_peptide() -> bool {
     let db = database(["P", "Q"], true);
     let count = forcing(bins(&[-1.0]), || picked_protein(&db, &mut rows));
     let port = port(1, &[(0, -1, 0.0)], &bins(&[-1.0]));
-    part("label -1, peptide a target, error -1", ((rows[0].protein_q, count), "(0.0, 1)"), (port, "([1.0], 0)"))
+    check("label -1, peptide a target, error -1", ((rows[0].protein_q, count), "(0.0, 1)"), (port, "([1.0], 0)"))
 }
 
 /// No rows.
 fn no_rows() -> bool {
     let sage = sage(&database(["P", "Q"], true), &[], &bins(&[0.5]));
-    part("no rows of proteins", (sage, "([], 0)"), (port(1, &[], &bins(&[0.5])), "([], 0)"))
+    check("no rows of proteins", (sage, "([], 0)"), (port(1, &[], &bins(&[0.5])), "([], 0)"))
 }
 
 /// A decoy alone, whose error brings the sum to -1: over no targets that is an infinity.
 fn no_targets() -> bool {
     let (rows, parts) = ([(0, -1, 0.0)], bins(&[-2.0]));
     let sage = sage(&database(["P", "Q"], true), &rows, &parts);
-    part("a decoy alone, error -2", (sage, "([-inf], 0)"), (port(1, &rows, &parts), "([-inf], 0)"))
+    check("a decoy alone, error -2", (sage, "([-inf], 0)"), (port(1, &rows, &parts), "([-inf], 0)"))
 }
 
 /// A target whose only score leaves f32::MIN: what the densities are made of.
@@ -103,12 +116,10 @@ fn never_scored() -> bool {
     let mut rows = [feature(0, 1, f32::NEG_INFINITY)];
     let (_, builds) = recording(|| picked_protein(&database(["P", "Q"], true), &mut rows));
     let Build { scores, decoys, .. } = &builds[0];
-    let (mut score, mut decoy) = ([0.5; 2], [5; 2]);
-    winners(&table(&[(0, 1, f32::NEG_INFINITY)]).lend(), &mut score, &mut decoy);
-    part(
+    check(
         "a target scored -infinity alone: the slot's score, and whether it is a decoy",
         ((scores[0], decoys[0]), "(-3.4028234663852886e38, true)"),
-        ((score, decoy), "([-3.4028235e38, NaN], [1, 4294967295])"),
+        (port_winners(&table(&[(0, 1, f32::NEG_INFINITY)])), "([-3.4028235e38, NaN], [1, 4294967295])"),
     )
 }
 
@@ -116,18 +127,18 @@ fn never_scored() -> bool {
 fn names_that_meet() -> bool {
     let (rows, parts) = ([(0, -1, 0.0), (1, 1, 1.0)], bins(&[1.0, -1.0]));
     let sage = sage(&database(["P", "rev_P"], true), &rows, &parts);
-    part(
+    check(
         "a decoy of P 0.0, the target rev_P 1.0",
         (sage, "([1.0, 1.0], 1)"),
         (port(1, &rows, &parts), "([1.0, 0.0], 1)"),
     )
 }
 
-/// The q-value of a name, and the count, which goes by rows.
+/// The q-value of a name, and the count, which is of rows.
 fn one_name() -> bool {
     let (rows, parts) = ([(0, 1, 1.0), (0, -1, 0.0)], bins(&[1.0, -1.0]));
     let sage = sage(&database(["P", "Q"], false), &rows, &parts);
-    part("one name, target 1.0, decoy 0.0", (sage, "([1.0, 1.0], 1)"), (port(0, &rows, &parts), "([1.0, 1.0], 1)"))
+    check("one name, target 1.0, decoy 0.0", (sage, "([1.0, 1.0], 1)"), (port(0, &rows, &parts), "([1.0, 1.0], 1)"))
 }
 
 /// Sides scored 1.0: sage's answers under several names of the two proteins.
@@ -139,12 +150,12 @@ fn tied() -> Vec<bool> {
     let (two, below) = ([(0, 1, 1.0), (1, -1, 1.0)], bins(&[-2.0]));
     let (three, quarter) = ([(0, 1, 1.0), (1, 1, 1.0), (1, -1, 1.0)], bins(&[0.25]));
     vec![
-        part(
+        check(
             "a target of one protein, a decoy of another, both 1.0, errors -2",
             (answers(&two, &below), "{\"[-3.0, -3.0]\", \"[-3.0, -inf]\"}"),
             (port(1, &two, &below).0, "[-3.0, -3.0]"),
         ),
-        part(
+        check(
             "a target of one protein, both sides of another, all 1.0, errors 0.25",
             (answers(&three, &quarter), "{\"[0.75, 0.75, 0.875]\", \"[0.875, 0.875, 0.875]\"}"),
             (port(1, &three, &quarter).0, "[0.75, 0.75, 0.875]"),
@@ -152,7 +163,7 @@ fn tied() -> Vec<bool> {
     ]
 }
 
-/// A lent side of -NaN, ranked last by sage and first by the port: its error is NaN, and with it every later sum.
+/// A side of -NaN, ranked last by sage and first by the port: its error is NaN, and with it every later sum.
 fn nan_side() -> bool {
     let slot = Competition { forward: 1.0, foward_ix: Some(0), reverse: -f32::NAN, reverse_ix: Some(1) };
     let map: FnvHashMap<u32, Competition<u32>> = [(0, slot)].into_iter().collect();
@@ -160,8 +171,8 @@ fn nan_side() -> bool {
     let rows = [(0, 1, 1.0), (0, -1, 0.0)];
     let mut table = table(&rows);
     table.reverse[0] = -f32::NAN;
-    let port = assigned(1, &mut table, &rows, &bins(&[-0.5])).0;
-    part("a target 1.0, its decoy -NaN, error -0.5", ([q[&0], q[&1]], "[0.5, 1.0]"), (port, "[1.0, 1.0]"))
+    let port = assigned(1, &table, &rows, &bins(&[-0.5])).0;
+    check("a target 1.0, its decoy -NaN, error -0.5", ([q[&0], q[&1]], "[0.5, 1.0]"), (port, "[1.0, 1.0]"))
 }
 
 /// Rows that take no part: of two proteins, of none and of one twice; of two groups, of one without a name, and of a
@@ -178,7 +189,7 @@ fn no_part() -> Vec<bool> {
     };
     let line = |input, sage| {
         let port = port(1, &[(NO_PART, 1, 1.0)], &bins(&[0.5])).0;
-        part(input, (sage, "(0.5, 0.5)"), (port, "[1.0]"))
+        check(input, (sage, "(0.5, 0.5)"), (port, "[1.0]"))
     };
     vec![
         line("two proteins, two groups, fields 0.5", of(&["P", "Q"], Some("P/Q"), 2)),
@@ -187,20 +198,19 @@ fn no_part() -> Vec<bool> {
     ]
 }
 
-/// Sides that are zeros, and a lent NaN: the slot's score, and whether it is a decoy.
+/// Sides that are zeros, and a NaN: the slot's score, and whether it is a decoy.
 fn sides() -> Vec<bool> {
     let of = |forward: f32, reverse: f32| {
         let slot = Competition { forward, reverse, ..Competition::<u32>::default() };
         let sage = (opened::score(&slot), opened::is_decoy(&slot));
         let mut table = table(&[(0, 1, 0.0)]);
         (table.forward[0], table.reverse[0]) = (forward, reverse);
-        let (mut score, mut decoy) = ([0.5; 2], [5; 2]);
-        winners(&table.lend(), &mut score, &mut decoy);
-        (sage, (score[0], decoy[0]))
+        let (scores, is_decoy) = port_winners(&table);
+        (sage, (scores[0], is_decoy[0]))
     };
     let (zeros, nan) = (of(0.0, -0.0), of(f32::NAN, 1.0));
     vec![
-        part("forward 0.0, reverse -0.0", (zeros.0, "(0.0, true) or (-0.0, true)"), (zeros.1, "(0.0, 1)")),
-        part("forward NaN, reverse 1.0", (nan.0, "(1.0, false)"), (nan.1, "(1.0, 0)")),
+        check("forward 0.0, reverse -0.0", (zeros.0, "(0.0, true) or (-0.0, true)"), (zeros.1, "(0.0, 1)")),
+        check("forward NaN, reverse 1.0", (nan.0, "(1.0, false)"), (nan.1, "(1.0, 0)")),
     ]
 }

@@ -1,16 +1,16 @@
-//! FEATURE_NAMES beside what score_psms computes: at seven places that is something else than the name says.
+//! FEATURE_NAMES beside what score_psms computes: at seven places the name describes something else.
 
+use crate::calls::Row;
 use crate::cases::Random;
-use crate::fdr::host::transformed;
+use crate::fdr::runs::transformed;
 use crate::kde::draws::between;
 use crate::kde::psms::row;
-use crate::vayemuku::fit::Row;
 use sage_core::mass::Tolerance;
 use sage_core::ml::kde::{recording, Build, Estimator};
 use sage_core::ml::linear_discriminant::{score_psms, LinearDiscriminantAnalysis, NAMES};
 use sage_core::scoring::Feature;
 
-/// A place whose name is not what stands there: the name, and what it says.
+/// A place at which the name does not describe the feature: the name, and what it describes.
 type Named = (usize, &'static str, fn(&Feature) -> f64);
 
 /// Every such place. The others are computed as they are named.
@@ -55,16 +55,16 @@ fn say(features: &str, same: bool, wanted: bool) -> bool {
 }
 
 /// The scores that sage's own fit gives, of features of which one may be as it is named.
-fn scores(rows: &[Feature], mass_model: &Build, named: Option<Named>) -> Option<Vec<f64>> {
-    let model = Estimator::from_parts(mass_model.estimator.clone());
+fn scores(rows: &[Feature], of_masses: &Build, named: Option<Named>) -> Option<Vec<f64>> {
+    let estimator = Estimator::from_parts(of_masses.estimator.clone());
     let features = |row: &Feature| -> Row {
-        let mut features = transformed(row, model.posterior_error(row.delta_mass.into()));
+        let mut features = transformed(row, estimator.posterior_error(row.delta_mass.into()));
         if let Some((place, _, read)) = named {
             features[place] = read(row);
         }
         features
     };
-    let fit = LinearDiscriminantAnalysis::train(rows, &mass_model.decoys, features)?;
+    let fit = LinearDiscriminantAnalysis::train(rows, &of_masses.decoys, features)?;
     Some(rows.iter().map(|row| fit.score(&features(row))).collect())
 }
 

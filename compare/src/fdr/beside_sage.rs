@@ -1,24 +1,24 @@
 //! The calls beside sage's unchanged picked_protein and picked_protein_group.
 
+use super::buffers::{expect_up_to_zeros, TableBuffer, Winners};
 use super::draws::{self, Rows};
-use super::lent::{expect_up_to_zeros, LentTable, Winners};
 use super::picked::{competitions, Function, Picked, Sage};
-use super::reading::Names;
 use super::Calls;
+use crate::calls::bin_scores;
+use crate::kde::buffers::Buffer;
 use crate::kde::builds::{expect_up_to_zero, Case};
 use crate::kde::draws::Width;
-use crate::kde::lent::Lent;
 use crate::kde::reading::both_zeros_from;
 use crate::report::{expect, expect_column, Answer};
-use crate::vayemuku::kde::{bin_scores, slot_posterior_bins, Densities};
-use crate::vayemuku::vayemuku_widen;
+use host::Names;
 use sage_core::fdr::opened;
 use sage_core::ml::kde::{Build, Parts};
+use vayemuku_sys::{slot_posterior_bins, vayemuku_widen};
 
-/// What stands in columns before a call.
+/// The contents of columns before a call.
 const GARBAGE: f64 = 0.078_912;
 
-/// Builder's defaults.
+/// Builder's default.
 const BINS: usize = 1000;
 
 /// The port's winners of a list of rows.
@@ -29,36 +29,36 @@ pub struct Won<'a> {
 }
 
 impl Calls {
-    /// As many random lists of rows. Most get bins that are forced on sage, the others those that sage fits.
+    /// Compares random lists of rows. Most get bins that are forced on sage, the others those that sage fits.
     pub fn beside_sage(&mut self, tables: u64) {
         for _ in 0..tables {
             let (slots, rows) = draws::distinct_rows(&mut self.random);
             let mut sage = Sage::new(&mut self.random, slots, &rows);
-            let mut table = self.filled(slots, &rows);
-            let winners = self.winners_as_read(&mut table);
+            let table = self.filled(slots, &rows);
+            let winners = self.winners_as_read(&table);
             let won = Won { slots, rows: &rows, winners };
             for function in [Function::Protein, Function::Group] {
                 let forced = match self.random.below(4) {
                     0 => None,
-                    _ => Some(draws::estimator(&mut self.random, &table.held())),
+                    _ => Some(draws::estimator(&mut self.random, &table.contents())),
                 };
                 let picked = sage.run(function, forced.as_ref());
                 self.winners.outcome(won.are_sages(&picked.build));
                 if forced.is_none() {
                     self.fitted_bins.outcome(won.fitted(&picked.build).map(|_| ()));
                 }
-                self.competition(sage.names(function), &picked, &picked.build.estimator, &mut table, &rows);
+                self.competition(sage.names(function), &picked, &picked.build.estimator, &table, &rows);
             }
         }
     }
 
     /// Compares the q-values that rows get by these bins, and the count.
-    pub fn competition(&mut self, names: Names, picked: &Picked, parts: &Parts, table: &mut LentTable, rows: &Rows) {
-        let (read, count, lent) = self.q_as_read(names, parts, table, rows);
+    pub fn competition(&mut self, names: Names, picked: &Picked, parts: &Parts, table: &TableBuffer, rows: &Rows) {
+        let (read, count, filled) = self.q_as_read(names, parts, table, rows);
         let outcome = expect("count beside sage's", count, picked.count)
-            .and_then(|()| expect_up_to_zeros("q beside sage's", lent.after()?, &picked.q, read.both_zeros));
-        let told = |fault| format!("{fault}, {names:?}, {} rows", rows.slots.len());
-        self.assign_q_value.outcome(outcome.map_err(told));
+            .and_then(|()| expect_up_to_zeros("q beside sage's", filled.after()?, &picked.q, read.both_zeros));
+        let in_rows = |fault| format!("{fault}, {names:?}, {} rows", rows.slots.len());
+        self.assign_q_value.outcome(outcome.map_err(in_rows));
     }
 }
 
@@ -69,7 +69,7 @@ impl Won<'_> {
         both_zeros_from(&wide).is_some()
     }
 
-    /// The winners are those of sage's competitions slot by slot, and altogether those that sage fits its bins to.
+    /// The winners are those of sage's competitions slot by slot, and together those that sage fits its bins to.
     pub fn are_sages(&self, build: &Build) -> Result<(), String> {
         let (scores, decoys) = (self.winners.scores.after()?, self.winners.is_decoy.after()?);
         let open = self.both_zeros();
@@ -85,7 +85,7 @@ impl Won<'_> {
             build.scores.iter().zip(&build.decoys).map(|(score, decoy)| (one_zero(*score as f32), *decoy)).collect();
         port.sort_unstable();
         sage.sort_unstable();
-        expect("winners altogether", port, sage)
+        expect("all winners", port, sage)
     }
 
     /// The estimator that module 4's calls make of the winners, where it is the one that sage fitted. A kernel sum
@@ -102,14 +102,14 @@ impl Won<'_> {
     /// The estimator of the winners.
     fn built(&self, build: &Build) -> Result<Parts, String> {
         let widened: Vec<f64> = self.winners.scores.after()?.iter().map(|score| vayemuku_widen(*score)).collect();
-        let mut at = Lent::new(BINS, GARBAGE);
-        let built = bin_scores(BINS, &widened, at.column());
+        let mut at = Buffer::new(BINS, GARBAGE);
+        let built = bin_scores(BINS, &widened, at.column_mut());
         expect("number of bin_scores", built.number, 0)?;
         let [decoy, target] = densities(build, 1.0, at.after()?);
-        let mut bins = Lent::new(BINS, GARBAGE);
-        let densities = Densities { decoy: &decoy, target: &target };
-        let number = slot_posterior_bins(1, BINS, self.winners.is_decoy.after()?, densities, bins.column());
-        expect("number of slot_posterior_bins", number, 0)?;
+        let mut bins = Buffer::new(BINS, GARBAGE);
+        let is_decoy = self.winners.is_decoy.after()?;
+        let returned = slot_posterior_bins(1, BINS, is_decoy, &decoy, &target, bins.column_mut());
+        expect("number of slot_posterior_bins", returned.number, 0)?;
         let bins = bins.after()?.to_vec();
         Ok(Parts { bins, min_score: built.min_score, score_step: built.score_step })
     }

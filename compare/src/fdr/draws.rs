@@ -1,12 +1,12 @@
 //! The feature rows, tables and estimators that competitions are tried on.
 
-use super::reading::{Columns, NO_PART};
+use super::reading::{CompetitionTable, NO_PART};
 use crate::cases::{random_float, Random};
 use crate::kde::draws::{self, between, one_of};
 use crate::lists::{distinct_scores, label, tied_scores};
-use crate::vayemuku::fdr::Batch;
 use sage_core::ml::kde::Parts;
 use std::collections::HashSet;
+use vayemuku_sys::Batch;
 
 /// Scores that leave f32::MIN.
 const LOWEST: [f32; 3] = [f32::NEG_INFINITY, f32::MIN, f32::NAN];
@@ -57,7 +57,7 @@ impl Rows {
     }
 }
 
-/// How many slots: few, up to 400, about 100 or 200, and seldom many.
+/// How many slots: few, up to 400, about 100 or 200, and rarely many.
 fn slot_number(random: &mut Random) -> usize {
     let number = match random.below(100) {
         0..3 => random.below(2),
@@ -85,7 +85,8 @@ fn seen_sides(random: &mut Random, slots: usize) -> Vec<(u32, bool)> {
     sides
 }
 
-/// Random rows over so many slots, the best scores of whose sides differ as numbers: document 01's comparison domain.
+/// Random rows, with the number of their slots. The best scores of all sides differ as numbers, which is document 01's
+/// comparison domain.
 pub fn distinct_rows(random: &mut Random) -> (usize, Rows) {
     let slots = slot_number(random);
     let sides = seen_sides(random, slots);
@@ -105,7 +106,7 @@ pub fn distinct_rows(random: &mut Random) -> (usize, Rows) {
     (slots, rows)
 }
 
-/// The best score of every side: moderate, those of decoys lower, or whole halves, or f32s of the whole range. Seldom
+/// The best score of every side: moderate, those of decoys lower, or whole halves, or f32s of the whole range. Rarely
 /// one leaves f32::MIN.
 fn side_scores(random: &mut Random, sides: &[(u32, bool)]) -> Vec<f32> {
     let (kind, apart) = (random.below(4), one_of(random, &[0.0, 2.0, 8.0]));
@@ -167,8 +168,8 @@ fn tied(random: &mut Random, length: usize) -> Vec<f32> {
     scores
 }
 
-/// A table that no rows need give: tied scores, NaN among them, unseen sides with any score, and any marks.
-pub fn table(random: &mut Random, slots: usize) -> Columns {
+/// Any table, also one that no rows give: tied scores, NaN among them, unseen sides with any score, and any marks.
+pub fn table(random: &mut Random, slots: usize) -> CompetitionTable {
     let unseen = random.below(4);
     let mut marks = || {
         let mark = |_| if random.below(4) < unseen { 0 } else { one_of(random, &SEEN) };
@@ -176,7 +177,7 @@ pub fn table(random: &mut Random, slots: usize) -> Columns {
     };
     let (forward_seen, reverse_seen) = (marks(), marks());
     let mut columns =
-        Columns { forward: tied(random, slots), reverse: tied(random, slots), forward_seen, reverse_seen };
+        CompetitionTable { forward: tied(random, slots), reverse: tied(random, slots), forward_seen, reverse_seen };
     if random.below(2) == 0 {
         for slot in 0..slots {
             if random.below(3) == 0 {
@@ -204,7 +205,7 @@ pub fn tied_rows(random: &mut Random, slots: usize) -> Rows {
 }
 
 /// The best scores of a table's seen sides.
-fn best_scores(columns: &Columns) -> Vec<f64> {
+fn best_scores(columns: &CompetitionTable) -> Vec<f64> {
     let forward = columns.forward.iter().zip(&columns.forward_seen);
     let sides = forward.chain(columns.reverse.iter().zip(&columns.reverse_seen));
     sides.filter(|(_, seen)| **seen != 0).map(|(score, _)| f64::from(*score)).collect()
@@ -212,7 +213,7 @@ fn best_scores(columns: &Columns) -> Vec<f64> {
 
 /// An estimator for a table: bins from about the least of its scores to the greatest that fall, fall to zero and below,
 /// are constant, or cancel, at times with a NaN among them; or any estimator.
-pub fn estimator(random: &mut Random, columns: &Columns) -> Parts {
+pub fn estimator(random: &mut Random, columns: &CompetitionTable) -> Parts {
     let kind = random.below(8);
     if kind == 0 {
         return draws::estimator(random);

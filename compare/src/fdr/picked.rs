@@ -1,9 +1,10 @@
 //! sage's unchanged picked_protein and picked_protein_group, on rows that a port's table is made of.
 
 use super::draws::Rows;
-use super::reading::{Names, NO_PART};
+use super::reading::NO_PART;
 use crate::cases::Random;
 use crate::kde::draws::one_of;
+use host::Names;
 use sage_core::database::{IndexedDatabase, PeptideIx};
 use sage_core::fdr::{picked_protein, picked_protein_group, Competition};
 use sage_core::ml::kde::{forcing, recording, Build, Parts};
@@ -11,7 +12,7 @@ use sage_core::peptide::Peptide;
 use sage_core::scoring::Feature;
 use std::sync::Arc;
 
-/// Tags of decoys' names. With the empty one, both sides of a protein carry one name.
+/// Tags of decoys' names. With the empty one, both sides of a protein have one name.
 const TAGS: [&str; 4] = ["rev_", "DECOY_", "rev_", ""];
 
 /// Protein names of shared peptides, and of peptides of no protein.
@@ -46,7 +47,7 @@ fn peptide(proteins: &[Arc<str>], decoy: bool) -> Peptide {
 }
 
 /// A database in which slot k is the protein Pk, its target peptide at 2k and its decoy peptide at 2k + 1. Shared
-/// peptides stand behind.
+/// peptides come last.
 pub fn database(slots: usize, generate_decoys: bool, decoy_tag: &str) -> IndexedDatabase {
     let mut peptides = Vec::with_capacity(2 * (slots + SHARED.len()));
     for slot in 0..slots {
@@ -61,7 +62,7 @@ pub fn database(slots: usize, generate_decoys: bool, decoy_tag: &str) -> Indexed
 }
 
 impl Sage {
-    /// The rows over so many slots, with decoys generated or not. A field of q-values comes in as 1.0.
+    /// The rows over `slots` slots, with decoys generated or not. The fields of q-values start as 1.0.
     pub fn new(random: &mut Random, slots: usize, rows: &Rows) -> Self {
         let db = database(slots, random.below(2) == 0, one_of(random, &TAGS));
         let mut features = Vec::with_capacity(rows.slots.len());
@@ -76,8 +77,8 @@ impl Sage {
         Sage { db, rows }
     }
 
-    /// Which names the sides of a slot have. `Peptide::proteins` puts the tag before a decoy's proteins only where
-    /// decoys are generated; otherwise both sides carry the protein's name.
+    /// The names of a slot's sides. `Peptide::proteins` puts the tag before a decoy's proteins only where decoys are
+    /// generated; otherwise both sides have the protein's name.
     pub fn names(&self, function: Function) -> Names {
         match function {
             Function::Protein if self.db.generate_decoys && !self.db.decoy_tag.is_empty() => Names::Two,

@@ -5,8 +5,9 @@ use crate::floats::{first_greatest, first_least};
 use crate::kde::reading::in_range;
 use crate::lists::LONGEST;
 use crate::report::Answer;
-use crate::vayemuku::fdr::{Batch, Table};
+use host::Names;
 use sage_core::ml::kde::{Estimator, Parts};
+use vayemuku_sys::{Batch, TableColumns, TableMut, TableRef};
 
 /// Slot 4,294,967,295 marks a row that takes no part.
 pub const NO_PART: u32 = 4_294_967_295;
@@ -14,23 +15,9 @@ pub const NO_PART: u32 = 4_294_967_295;
 /// The blank of a 32-bit whole number.
 pub const BLANK: u32 = 4_294_967_295;
 
-/// Two names: each side gets its own row's q. One name: both sides get the q of the later ranked row.
-#[derive(Clone, Copy, Debug, PartialEq)]
-pub enum Names {
-    One,
-    Two,
-}
-
-impl Names {
-    /// Whether there are two.
-    pub fn are_two(self) -> bool {
-        self == Names::Two
-    }
-}
-
-/// A table: one entry per slot in each column.
+/// A competition table: one entry per slot in each column.
 #[derive(Clone)]
-pub struct Columns {
+pub struct CompetitionTable {
     pub forward: Vec<f32>,
     pub reverse: Vec<f32>,
     pub forward_seen: Vec<u32>,
@@ -52,11 +39,11 @@ pub struct Assigned {
     pub both_zeros: bool,
 }
 
-impl Columns {
+impl CompetitionTable {
     /// Each side starts at f32::MIN and unseen.
     pub fn fresh(slots: usize) -> Self {
         let (scores, marks) = (vec![f32::MIN; slots], vec![0; slots]);
-        Columns { forward: scores.clone(), reverse: scores, forward_seen: marks.clone(), reverse_seen: marks }
+        CompetitionTable { forward: scores.clone(), reverse: scores, forward_seen: marks.clone(), reverse_seen: marks }
     }
 
     /// A row raises its side by max and marks it seen (mark 1), even if its score is NaN.
@@ -120,8 +107,9 @@ impl Columns {
         sides
     }
 
-    /// Then the minimum from the bottom starting at 1.0. The count takes targets at or under 0.01 only. Each feature row
-    /// gets the q of its slot's side; 1.0 if its name was never ranked; 1.0 if it takes no part.
+    /// Then the minimum from the bottom starting at 1.0. The count takes targets at or under 0.01 only. Each feature
+    /// row gets the q of its slot's side; 1.0 if its name was never ranked; 1.0 if it takes no part. Two names: each
+    /// side gets its own row's q. One name: both sides get the q of the later ranked row.
     pub fn assigned(&self, names: Names, parts: &Parts, slots: &[u32], labels: &[i32]) -> Assigned {
         let mut sides = self.ratios(parts);
         let zero = |negative| sides.iter().any(|side| side.q == 0.0 && side.q.is_sign_negative() == negative);
@@ -146,10 +134,16 @@ impl Columns {
         Assigned { q: slots.iter().zip(labels).map(of_row).collect(), count, both_zeros }
     }
 
-    /// What a call is lent.
-    pub fn lend(&mut self) -> Table<'_> {
-        let Columns { forward, reverse, forward_seen, reverse_seen } = self;
-        Table { forward, reverse, forward_seen, reverse_seen }
+    /// The columns, to read.
+    pub fn columns(&self) -> TableRef<'_> {
+        let CompetitionTable { forward, reverse, forward_seen, reverse_seen } = self;
+        TableColumns { forward, reverse, forward_seen, reverse_seen }
+    }
+
+    /// The columns, to write.
+    pub fn columns_mut(&mut self) -> TableMut<'_> {
+        let CompetitionTable { forward, reverse, forward_seen, reverse_seen } = self;
+        TableColumns { forward, reverse, forward_seen, reverse_seen }
     }
 
     /// The lengths of the columns.
@@ -158,8 +152,8 @@ impl Columns {
     }
 }
 
-/// The first of questions 1, 2, 3 and 5 that is answered with no, or 0: of lists of these lengths, of columns with the
-/// lengths that they have and those stated, of so many bins, and of slots beside a slot count.
+/// The first of questions 1, 2, 3 and 5 that is answered with no, or 0: of lists with these lengths, of columns with
+/// the lengths that they have and those stated, of a number of bins, and of slots with a slot count.
 pub fn refusal(lists: &[usize], columns: &[(usize, usize)], bins: usize, slots: &[u32], slot_count: usize) -> u32 {
     if lists.iter().any(|length| *length > LONGEST) {
         1

@@ -1,17 +1,18 @@
 //! Refusals: the number of the first question answered with no, blanks in result columns, 0 in working columns, and
 //! tables as they were.
 
+use super::buffers::{QValues, TableBuffer, Winners};
 use super::draws;
-use super::lent::{LentTable, QValues, Winners};
-use super::reading::{refusal, Columns, Names, BLANK};
+use super::reading::{refusal, CompetitionTable, BLANK};
 use super::Calls;
 use crate::cases::Random;
 use crate::kde::draws::{between, one_of};
 use crate::kde::reading::MOST_BINS;
 use crate::lists::{label, LONGEST};
 use crate::report::{expect, expect_all, expect_column};
-use crate::vayemuku::fdr::{add_rows, fresh_table, Batch};
+use host::Names;
 use sage_core::ml::kde::Parts;
+use vayemuku_sys::{add_rows, fresh_table, Batch};
 
 /// Numbers of bins on either side of both ends.
 const BINS: [usize; 8] = [0, 1, 2, 3, 20, MOST_BINS, MOST_BINS + 1, 2 * MOST_BINS];
@@ -25,7 +26,7 @@ const TRIALS: usize = 40_000;
 /// One entry more than a list may have.
 const LONG: usize = LONGEST + 1;
 
-/// Columns of rows of these lengths; a slot in the middle is past the end where `past` says so.
+/// CompetitionTable of rows of these lengths; a slot in the middle is past the end where `past` says so.
 struct Lists {
     slots: Vec<u32>,
     labels: Vec<i32>,
@@ -61,20 +62,20 @@ impl Lists {
 }
 
 /// A table with columns of these lengths. A long column is zeroed memory.
-fn table(random: &mut Random, lengths: [usize; 4]) -> LentTable {
+fn table(random: &mut Random, lengths: [usize; 4]) -> TableBuffer {
     let most = lengths.into_iter().max().unwrap_or_default();
     if most >= LONG {
-        return LentTable::zeroed(lengths);
+        return TableBuffer::zeroed(lengths);
     }
     let mut columns = draws::table(random, most);
     columns.forward.truncate(lengths[0]);
     columns.reverse.truncate(lengths[1]);
     columns.forward_seen.truncate(lengths[2]);
     columns.reverse_seen.truncate(lengths[3]);
-    LentTable::holding(&columns)
+    TableBuffer::copy_of(&columns)
 }
 
-/// Each of a table's columns beside the length of the first.
+/// The length of each of a table's columns, with that of the first.
 fn table_columns([forward, reverse, forward_seen, reverse_seen]: [usize; 4]) -> [(usize, usize); 3] {
     [reverse, forward_seen, reverse_seen].map(|length| (length, forward))
 }
@@ -89,7 +90,7 @@ fn long_ones<const COLUMNS: usize>(short: [usize; COLUMNS]) -> impl Iterator<Ite
     (0..COLUMNS).map(one).chain([[LONG; COLUMNS]])
 }
 
-/// Every choice of so many lengths from 0 on, below `end`.
+/// Every choice of lengths below `end`.
 fn every_length<const COLUMNS: usize>(end: usize) -> impl Iterator<Item = [usize; COLUMNS]> {
     (0..end.pow(COLUMNS as u32)).map(move |choice| std::array::from_fn(|column| choice / end.pow(column as u32) % end))
 }
@@ -131,10 +132,10 @@ impl Calls {
     fn fresh_refusal(&mut self, lengths: [usize; 4]) {
         let wanted = refusal(&lengths, &table_columns(lengths), 1, &[], 0);
         let mut table = table(&mut self.random, lengths);
-        let before = table.held();
-        let number = fresh_table(&mut table.lend());
-        let after = if wanted == 0 { Columns::fresh(lengths[0]) } else { before };
-        let outcome = expect("number", number, wanted).and_then(|()| table.holds_bits(&after));
+        let before = table.contents();
+        let number = fresh_table(table.columns_mut()).number;
+        let after = if wanted == 0 { CompetitionTable::fresh(lengths[0]) } else { before };
+        let outcome = expect("number", number, wanted).and_then(|()| table.expect_bits(&after));
         self.fresh_table.outcome(outcome.map_err(|fault| format!("{fault}, lengths {lengths:?}")));
     }
 
@@ -147,14 +148,14 @@ impl Calls {
         columns.extend(table_columns(of_table));
         let wanted = refusal(&lengths, &columns, 1, &lists.slots, forward);
         let mut table = table(&mut self.random, of_table);
-        let mut after = table.held();
+        let mut after = table.contents();
         if wanted == 0 {
             after.add(lists.batch());
         }
-        let number = add_rows(lists.batch(), &mut table.lend());
+        let number = add_rows(lists.batch(), table.columns_mut()).number;
         let outcome = expect("number", number, wanted).and_then(|()| match wanted {
-            0 => table.holds(&after),
-            _ => table.holds_bits(&after),
+            0 => table.expect(&after),
+            _ => table.expect_bits(&after),
         });
         self.add_rows.outcome(outcome.map_err(|fault| format!("{fault}, lengths {lengths:?}, past {past:?}")));
     }
@@ -166,17 +167,17 @@ impl Calls {
         let mut columns = vec![(scores, forward), (is_decoy, forward)];
         columns.extend(table_columns(of_table));
         let wanted = refusal(&of_table, &columns, 1, &[], 0);
-        let mut table = table(&mut self.random, of_table);
+        let table = table(&mut self.random, of_table);
         if wanted == 0 {
-            self.winners_as_read(&mut table);
+            self.winners_as_read(&table);
             return;
         }
-        let before = table.held();
-        let (number, lent) = Winners::call(&mut table, [scores, is_decoy]);
+        let before = table.contents();
+        let (number, filled) = Winners::call(&table, [scores, is_decoy]);
         let outcome = expect("number", number, wanted)
-            .and_then(|()| expect_all("score", lent.scores.after()?, f32::NAN))
-            .and_then(|()| expect_all("is_decoy", lent.is_decoy.after()?, BLANK))
-            .and_then(|()| table.holds_bits(&before));
+            .and_then(|()| expect_all("score", filled.scores.after()?, f32::NAN))
+            .and_then(|()| expect_all("is_decoy", filled.is_decoy.after()?, BLANK))
+            .and_then(|()| table.expect_bits(&before));
         self.winners.outcome(outcome.map_err(|fault| format!("{fault}, lengths {lengths:?}")));
     }
 
@@ -192,25 +193,25 @@ impl Calls {
         let random = &mut self.random;
         let bin_column = (0..bins).map(|_| between(random, -1.0, 1.0)).collect();
         let parts = Parts { bins: bin_column, min_score: -3.0, score_step: 0.5 };
-        let mut table = table(random, of_table);
-        let (before, two) = (table.held(), random.below(2) as u32);
+        let table = table(random, of_table);
+        let (before, two) = (table.contents(), random.below(2) as u32);
         let rows = (&lists.slots[..], &lists.labels[..]);
-        let (number, count, lent) = QValues::call(two, &parts, &mut table, rows, [keys, spare, q]);
+        let (number, count, filled) = QValues::call(two, &parts, &table, rows, [keys, spare, q]);
         let outcome = expect("number", number, wanted).and_then(|()| match wanted {
             0 => {
                 let names = if two == 1 { Names::Two } else { Names::One };
                 let read = before.assigned(names, &parts, rows.0, rows.1);
                 expect("count", count, read.count)?;
-                expect_column("q", lent.after()?, read.q.into_iter())
+                expect_column("q", filled.after()?, read.q.into_iter())
             }
             _ => {
                 expect("count", count, 0)?;
-                expect_all("q", lent.after()?, f32::NAN)
+                expect_all("q", filled.after()?, f32::NAN)
             }
         });
-        let outcome = outcome.and_then(|()| table.holds_bits(&before));
-        let told = |fault| format!("{fault}, lengths {lengths:?}, {bins} bins, past {past:?}");
-        self.assign_q_value.outcome(outcome.map_err(told));
+        let outcome = outcome.and_then(|()| table.expect_bits(&before));
+        let in_case = |fault| format!("{fault}, lengths {lengths:?}, {bins} bins, past {past:?}");
+        self.assign_q_value.outcome(outcome.map_err(in_case));
     }
 }
 

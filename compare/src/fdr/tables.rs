@@ -1,15 +1,16 @@
 //! Every call beside the reading of document 01: tables made in one batch and in several with refused ones between, and
 //! tables with equal scores, zeros of both signs, NaNs and any marks.
 
+use super::buffers::{QValues, TableBuffer, Winners};
 use super::draws::{self, Rows};
-use super::lent::{LentTable, QValues, Winners};
-use super::reading::{refusal, Assigned, Columns, Names, NO_PART};
+use super::reading::{refusal, Assigned, CompetitionTable, NO_PART};
 use super::Calls;
 use crate::cases::Random;
 use crate::kde::draws::{flag, one_of};
 use crate::report::{expect, expect_column};
-use crate::vayemuku::fdr::{add_rows, fresh_table, Batch};
+use host::Names;
 use sage_core::ml::kde::Parts;
+use vayemuku_sys::{add_rows, fresh_table, Batch};
 
 /// Slots past the end of a table of less than 2^31.
 const PAST: [u32; 4] = [0, 1, 1 << 31, NO_PART - 1];
@@ -19,45 +20,45 @@ impl Calls {
     pub fn points(&mut self) {
         let parts = Parts { bins: vec![0.5, 0.25], min_score: 1.0, score_step: 1.0 };
         for names in [Names::One, Names::Two] {
-            let mut table = self.filled(2, &rows(&[(0, 1, 2.0), (1, 1, 1.0)]));
-            let (number, count, lent) =
-                QValues::call(names.are_two().into(), &parts, &mut table, (&[0, 1], &[1, 1]), [4, 4, 2]);
+            let table = self.filled(2, &rows(&[(0, 1, 2.0), (1, 1, 1.0)]));
+            let (number, count, filled) =
+                QValues::call(u32::from(names == Names::Two), &parts, &table, (&[0, 1], &[1, 1]), [4, 4, 2]);
             let outcome = expect("number and count", (number, count), (0, 0))
-                .and_then(|()| expect_column("q", lent.after()?, [0.875; 2].into_iter()));
+                .and_then(|()| expect_column("q", filled.after()?, [0.875; 2].into_iter()));
             self.assign_q_value.outcome(outcome.map_err(|fault| format!("{fault}, two targets 2.0 and 1.0")));
         }
-        let mut table = self.filled(2, &rows(&[(0, 1, 1.5), (0, -1, 1.5), (1, 1, f32::NEG_INFINITY)]));
-        let (number, lent) = Winners::call(&mut table, [2; 2]);
+        let table = self.filled(2, &rows(&[(0, 1, 1.5), (0, -1, 1.5), (1, 1, f32::NEG_INFINITY)]));
+        let (number, filled) = Winners::call(&table, [2; 2]);
         let outcome = expect("number", number, 0)
-            .and_then(|()| expect_column("score", lent.scores.after()?, [1.5, f32::MIN].into_iter()))
-            .and_then(|()| expect_column("is_decoy", lent.is_decoy.after()?, [1; 2].into_iter()));
+            .and_then(|()| expect_column("score", filled.scores.after()?, [1.5, f32::MIN].into_iter()))
+            .and_then(|()| expect_column("is_decoy", filled.is_decoy.after()?, [1; 2].into_iter()));
         self.winners.outcome(outcome.map_err(|fault| format!("{fault}, equal sides, and -infinity")));
     }
 
-    /// The port's table of these rows, made in one batch and then, in several batches, again; held against the reading.
-    pub fn filled(&mut self, slots: usize, rows: &Rows) -> LentTable {
-        let start = Columns::fresh(slots);
-        let mut table = LentTable::garbage([slots; 4]);
-        let number = fresh_table(&mut table.lend());
-        let outcome = expect("number", number, 0).and_then(|()| table.holds_bits(&start));
+    /// The port's table of these rows, made in one batch, and once more in several; both are compared with the reading.
+    pub fn filled(&mut self, slots: usize, rows: &Rows) -> TableBuffer {
+        let start = CompetitionTable::fresh(slots);
+        let mut table = TableBuffer::garbage([slots; 4]);
+        let number = fresh_table(table.columns_mut()).number;
+        let outcome = expect("number", number, 0).and_then(|()| table.expect_bits(&start));
         self.fresh_table.outcome(outcome.map_err(|fault| format!("{fault}, {slots} slots")));
         self.added(&start, rows);
         self.one_batch(table, &start, rows)
     }
 
     /// The table with all rows in one batch.
-    fn one_batch(&mut self, mut table: LentTable, start: &Columns, rows: &Rows) -> LentTable {
+    fn one_batch(&mut self, mut table: TableBuffer, start: &CompetitionTable, rows: &Rows) -> TableBuffer {
         let mut wanted = start.clone();
         wanted.add(rows.all());
-        let number = add_rows(rows.all(), &mut table.lend());
-        let outcome = expect("number", number, 0).and_then(|()| table.holds(&wanted));
-        self.add_rows.outcome(outcome.map_err(|fault| format!("{fault}, {}", told(start, rows))));
+        let number = add_rows(rows.all(), table.columns_mut()).number;
+        let outcome = expect("number", number, 0).and_then(|()| table.expect(&wanted));
+        self.add_rows.outcome(outcome.map_err(|fault| format!("{fault}, {}", described(start, rows))));
         table
     }
 
     /// The rows in random batches, between which others are refused.
-    fn added(&mut self, start: &Columns, rows: &Rows) {
-        let mut table = LentTable::holding(start);
+    fn added(&mut self, start: &CompetitionTable, rows: &Rows) {
+        let mut table = TableBuffer::copy_of(start);
         let mut wanted = start.clone();
         let mut from = 0;
         while from < rows.slots.len() {
@@ -68,15 +69,15 @@ impl Calls {
             let to = from + 1 + self.random.below((rows.slots.len() - from) as u64) as usize;
             let batch = rows.part(from, to);
             wanted.add(batch);
-            let number = add_rows(batch, &mut table.lend());
-            let outcome = refused.and_then(|()| expect("number", number, 0)).and_then(|()| table.holds(&wanted));
+            let number = add_rows(batch, table.columns_mut()).number;
+            let outcome = refused.and_then(|()| expect("number", number, 0)).and_then(|()| table.expect(&wanted));
             self.add_rows
-                .outcome(outcome.map_err(|fault| format!("{fault}, batch {from} to {to}, {}", told(start, rows))));
+                .outcome(outcome.map_err(|fault| format!("{fault}, batch {from} to {to}, {}", described(start, rows))));
             from = to;
         }
     }
 
-    /// As many tables with equal scores, zeros of both signs, NaNs and any marks, and rows of other sides than those
+    /// Compares tables with equal scores, zeros of both signs, NaNs and any marks, and rows of other sides than those
     /// that were added.
     pub fn tied(&mut self, tables: u64) {
         for _ in 0..tables {
@@ -85,32 +86,32 @@ impl Calls {
             let slots = random.below(most) as usize;
             let (start, rows) = (draws::table(random, slots), draws::tied_rows(random, slots));
             let asked = draws::tied_rows(random, slots);
-            let mut table = match random.below(3) {
+            let table = match random.below(3) {
                 0 => self.filled(slots, &rows),
                 _ => {
                     self.added(&start, &rows);
-                    self.one_batch(LentTable::holding(&start), &start, &rows)
+                    self.one_batch(TableBuffer::copy_of(&start), &start, &rows)
                 }
             };
-            self.winners_as_read(&mut table);
-            let parts = draws::estimator(&mut self.random, &table.held());
+            self.winners_as_read(&table);
+            let parts = draws::estimator(&mut self.random, &table.contents());
             for names in [Names::One, Names::Two] {
-                self.q_as_read(names, &parts, &mut table, &asked);
+                self.q_as_read(names, &parts, &table, &asked);
             }
         }
     }
 
     /// Compares the winners of a table, which stays as it is; gives the port's.
-    pub fn winners_as_read(&mut self, table: &mut LentTable) -> Winners {
-        let columns = table.held();
+    pub fn winners_as_read(&mut self, table: &TableBuffer) -> Winners {
+        let columns = table.contents();
         let (scores, is_decoy) = columns.winners();
-        let (number, lent) = Winners::call(table, [scores.len(); 2]);
+        let (number, filled) = Winners::call(table, [scores.len(); 2]);
         let outcome = expect("number", number, 0)
-            .and_then(|()| expect_column("score", lent.scores.after()?, scores.into_iter()))
-            .and_then(|()| expect_column("is_decoy", lent.is_decoy.after()?, is_decoy.into_iter()))
-            .and_then(|()| table.holds_bits(&columns));
+            .and_then(|()| expect_column("score", filled.scores.after()?, scores.into_iter()))
+            .and_then(|()| expect_column("is_decoy", filled.is_decoy.after()?, is_decoy.into_iter()))
+            .and_then(|()| table.expect_bits(&columns));
         self.winners.outcome(outcome.map_err(|fault| format!("{fault}, {}", shown(&columns))));
-        lent
+        filled
     }
 
     /// Compares the q-values of rows, which leave the table as it is; gives the reading's with the port's.
@@ -118,27 +119,27 @@ impl Calls {
         &mut self,
         names: Names,
         parts: &Parts,
-        table: &mut LentTable,
+        table: &TableBuffer,
         rows: &Rows,
     ) -> (Assigned, usize, QValues) {
-        let (columns, two) = (table.held(), flag(&mut self.random, names.are_two()));
+        let (columns, two) = (table.contents(), flag(&mut self.random, names == Names::Two));
         let wanted = columns.assigned(names, parts, &rows.slots, &rows.labels);
         let (slots, length) = (columns.forward.len(), rows.slots.len());
         let lengths = [2 * slots, 2 * slots, length];
-        let (number, count, lent) = QValues::call(two, parts, table, (&rows.slots, &rows.labels), lengths);
+        let (number, count, filled) = QValues::call(two, parts, table, (&rows.slots, &rows.labels), lengths);
         let outcome = expect("number", number, 0)
             .and_then(|()| expect("count", count, wanted.count))
-            .and_then(|()| expect_column("q", lent.after()?, wanted.q.iter().copied()))
-            .and_then(|()| table.holds_bits(&columns));
-        let told = |fault| format!("{fault}, {names:?} {two}, {length} rows, {}, {parts:.60?}", shown(&columns));
-        self.assign_q_value.outcome(outcome.map_err(told));
-        (wanted, count, lent)
+            .and_then(|()| expect_column("q", filled.after()?, wanted.q.iter().copied()))
+            .and_then(|()| table.expect_bits(&columns));
+        let in_case = |fault| format!("{fault}, {names:?} {two}, {length} rows, {}, {parts:.60?}", shown(&columns));
+        self.assign_q_value.outcome(outcome.map_err(in_case));
+        (wanted, count, filled)
     }
 }
 
 /// A batch that is refused by 2 or 5 leaves the table as it is.
-fn refused_batch(random: &mut Random, table: &mut LentTable, rows: &Rows) -> Result<(), String> {
-    let before = table.held();
+fn refused_batch(random: &mut Random, table: &mut TableBuffer, rows: &Rows) -> Result<(), String> {
+    let before = table.contents();
     let count = before.forward.len();
     let mut rows = rows.clone();
     let place = random.below(rows.slots.len() as u64) as usize;
@@ -154,9 +155,9 @@ fn refused_batch(random: &mut Random, table: &mut LentTable, rows: &Rows) -> Res
     let Rows { slots, labels, scores } = &rows;
     let (lists, stated) = ([slots.len(), labels.len(), scores.len(), count], slots.len());
     let wanted = refusal(&lists, &[(labels.len(), stated), (scores.len(), stated)], 1, slots, count);
-    let number = add_rows(Batch { slots, labels, scores }, &mut table.lend());
+    let number = add_rows(Batch { slots, labels, scores }, table.columns_mut()).number;
     expect("number of a refused batch", number, wanted)?;
-    table.holds_bits(&before).map_err(|fault| format!("{fault}, after refusal {wanted}"))
+    table.expect_bits(&before).map_err(|fault| format!("{fault}, after refusal {wanted}"))
 }
 
 /// Rows of these slots, labels and scores.
@@ -172,14 +173,14 @@ fn few<T: std::fmt::Debug>(column: &[T]) -> String {
 }
 
 /// A table in a report.
-fn shown(columns: &Columns) -> String {
-    let Columns { forward, reverse, forward_seen, reverse_seen } = columns;
+fn shown(columns: &CompetitionTable) -> String {
+    let CompetitionTable { forward, reverse, forward_seen, reverse_seen } = columns;
     let scores = format!("forward {}, reverse {}", few(forward), few(reverse));
     format!("{} slots, {scores}, marks {} and {}", forward.len(), few(forward_seen), few(reverse_seen))
 }
 
 /// A table with rows in a report.
-fn told(start: &Columns, rows: &Rows) -> String {
+fn described(start: &CompetitionTable, rows: &Rows) -> String {
     let Rows { slots, labels, scores } = rows;
     format!("{}, slots {}, labels {}, scores {}", shown(start), few(slots), few(labels), few(scores))
 }

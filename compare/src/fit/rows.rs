@@ -1,9 +1,10 @@
 //! The feature rows and labels that fits and scores are tried on.
 
 use super::systems::{moderate, pick, power_of_ten, whole, SPECIAL};
+use crate::calls::Row;
 use crate::cases::{partner, random_float, Random};
 use crate::lists::label;
-use crate::vayemuku::fit::{Row, WIDTH};
+use host::FEATURES;
 
 /// Random labels of up to `longest` rows: of one class, of one class but for one row, or of both at a random rate.
 fn labels(random: &mut Random, longest: u64) -> Vec<i32> {
@@ -21,9 +22,9 @@ fn labels(random: &mut Random, longest: u64) -> Vec<i32> {
 /// A random list of up to `longest` rows with labels.
 pub fn random_list(random: &mut Random, longest: u64) -> (Vec<Row>, Vec<i32>) {
     let labels = labels(random, longest);
-    let mut rows = vec![[0.0; WIDTH]; labels.len()];
+    let mut rows = vec![[0.0; FEATURES]; labels.len()];
     let kinds = pick(random, &[6, 9, 9, 11]);
-    for column in 0..WIDTH {
+    for column in 0..FEATURES {
         let kind = random.below(kinds);
         fill_column(random, &mut rows, &labels, column, kind);
     }
@@ -33,8 +34,8 @@ pub fn random_list(random: &mut Random, longest: u64) -> (Vec<Row>, Vec<i32>) {
             let factor = power_of_ten(random, 160);
             rows.iter_mut().flatten().for_each(|x| *x *= factor);
         }
-        1 => rows[place][random.below(WIDTH as u64) as usize] = pick(random, &SPECIAL),
-        2 => rows[place] = [pick(random, &SPECIAL); WIDTH],
+        1 => rows[place][random.below(FEATURES as u64) as usize] = pick(random, &SPECIAL),
+        2 => rows[place] = [pick(random, &SPECIAL); FEATURES],
         _ => {}
     }
     (rows, labels)
@@ -74,8 +75,8 @@ pub fn finite_coefficients(random: &mut Random) -> Row {
 /// zeros, specials or of any pattern.
 fn numbers(random: &mut Random, kind: u64) -> Row {
     if kind == 0 {
-        let mut row = [pick(random, &[0.0, -0.0]); WIDTH];
-        row[random.below(WIDTH as u64) as usize] = random_float(random);
+        let mut row = [pick(random, &[0.0, -0.0]); FEATURES];
+        row[random.below(FEATURES as u64) as usize] = random_float(random);
         return row;
     }
     std::array::from_fn(|_| match kind {
@@ -95,14 +96,14 @@ pub fn random_pair(random: &mut Random) -> (Row, Row) {
     });
     match random.below(4) {
         0 => {
-            for j in (1..WIDTH).step_by(2) {
+            for j in (1..FEATURES).step_by(2) {
                 coefficients[j] = -coefficients[j - 1];
                 row[j] = partner(random, row[j - 1]);
             }
         }
         1 => {
-            let place = random.below(WIDTH as u64) as usize;
-            coefficients = [0.0; WIDTH];
+            let place = random.below(FEATURES as u64) as usize;
+            coefficients = [0.0; FEATURES];
             coefficients[place] = 1.0;
             row = std::array::from_fn(|j| if j == place { random_float(random) } else { whole(random) });
         }
@@ -111,11 +112,11 @@ pub fn random_pair(random: &mut Random) -> (Row, Row) {
     (coefficients, row)
 }
 
-/// As many random rows for these coefficients: of any kind, or with one number that makes the score near to any float.
+/// Random rows for these coefficients: of any kind, or with one number that makes the score near to any float.
 pub fn random_rows(random: &mut Random, coefficients: &Row, length: usize) -> Vec<Row> {
-    let place = random.below(WIDTH as u64) as usize;
+    let place = random.below(FEATURES as u64) as usize;
     let single = |x: f64| {
-        let mut row = [0.0; WIDTH];
+        let mut row = [0.0; FEATURES];
         row[place] = x / coefficients[place];
         row
     };

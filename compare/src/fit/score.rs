@@ -1,19 +1,21 @@
 //! A row's score and the scoring run beside sage's score, and Rust's `as f32`.
 
 use super::rows::{finite_coefficients, random_pair, random_rows};
+use crate::calls::Row;
 use crate::cases::Random;
 use crate::lists::LONGEST;
 use crate::report::{expect, expect_all, expect_column, Answer, Tally};
-use crate::vayemuku::fit::{score_rows, vayemuku_score, Row, WIDTH};
+use host::FEATURES;
 use sage_core::ml::linear_discriminant::LinearDiscriminantAnalysis;
+use vayemuku_sys::{score, score_rows};
 
-/// What stands in a result column before a call.
+/// The contents of a result column before a call.
 const GARBAGE: f64 = 0.375;
 
 /// Single scores for each scoring run.
 const SINGLE: u64 = 40;
 
-/// Scoring runs have up to so many rows, and at times one of these numbers of rows.
+/// The most rows of a scoring run, and numbers of rows that some runs have instead.
 const ROWS: u64 = 40;
 const MORE_ROWS: [usize; 12] = [0, 1, 127, 128, 129, 255, 256, 257, 383, 384, 385, 1_000];
 
@@ -39,7 +41,7 @@ impl Scores {
         Scores { single: Tally::new("score"), run: Tally::new("score_rows") }
     }
 
-    /// Compares as many random runs, and single scores for each.
+    /// Compares random runs, and single scores for each.
     pub fn random(&mut self, runs: u64) {
         let mut random = Random::new(14);
         for run in 0..runs {
@@ -57,7 +59,7 @@ impl Scores {
 
     /// Compares the score of one row.
     fn check_single(&mut self, (coefficients, row): (Row, Row)) {
-        let port = vayemuku_score(&coefficients, &row);
+        let port = score(&coefficients, &row);
         let sage = LinearDiscriminantAnalysis::from_coefficients(coefficients.to_vec()).score(&row);
         self.single.count(is_score(port, &coefficients, &row, sage), || {
             format!("port {}, sage {}, coefficients {coefficients:?}, row {row:?}", port.hex(), sage.hex())
@@ -67,30 +69,30 @@ impl Scores {
     /// Compares one run: each score with sage's, and its narrowing with Rust's.
     pub fn check(&mut self, coefficients: &Row, rows: &[Row]) {
         let (mut scores, mut narrowed) = (vec![GARBAGE; rows.len()], vec![GARBAGE as f32; rows.len()]);
-        let number = score_rows(coefficients, rows.as_flattened(), &mut scores, &mut narrowed);
+        let returned = score_rows(coefficients, rows.as_flattened(), &mut scores, &mut narrowed);
         let sage = LinearDiscriminantAnalysis::from_coefficients(coefficients.to_vec());
         let other =
             scores.iter().zip(rows).position(|(port, row)| !is_score(*port, coefficients, row, sage.score(row)));
-        let outcome = expect("number", number, 0)
+        let outcome = expect("number", returned.number, 0)
             .and_then(|()| expect("a score that is not sage's, at", other, None))
             .and_then(|()| expect_column("narrowed", &narrowed, scores.iter().map(|score| *score as f32)));
-        let told = || format!("{} rows, coefficients {coefficients:?}", rows.len());
-        self.run.outcome(outcome.map_err(|fault| format!("{fault}, of {}", told())));
+        let described = || format!("{} rows, coefficients {coefficients:?}", rows.len());
+        self.run.outcome(outcome.map_err(|fault| format!("{fault}, of {}", described())));
     }
 
     /// Lists that are too long, columns of another length, and coefficients that are not finite.
     pub fn refusals(&mut self) {
-        let features = vec![0.0; WIDTH * (LONGEST + 1)];
-        let most = WIDTH * LONGEST;
+        let features = vec![0.0; FEATURES * (LONGEST + 1)];
+        let most = FEATURES * LONGEST;
         let long = LONGEST + 1;
         for (numbers, scores, narrowed, wanted) in [
             (most + 1, 0, 0, 1),
             (most + 1, 3, 5, 1),
             (most + 1, LONGEST, LONGEST, 1),
-            (most + WIDTH, long, long, 1),
-            (most + WIDTH, long, 7, 1),
+            (most + FEATURES, long, long, 1),
+            (most + FEATURES, long, 7, 1),
             (0, long, long, 2),
-            (WIDTH, 1, long, 2),
+            (FEATURES, 1, long, 2),
             (most, long, long, 2),
             (most, 3, 3, 2),
             (most, LONGEST, 7, 2),
@@ -99,7 +101,7 @@ impl Scores {
             self.refusal(&features[..numbers], [scores, narrowed], wanted);
         }
         for [scores, narrowed] in (0..36).map(|choice| [choice / 6, choice % 6]) {
-            let right = |numbers: usize| numbers == WIDTH * scores && narrowed == scores;
+            let right = |numbers: usize| numbers == FEATURES * scores && narrowed == scores;
             for numbers in (0..130).filter(|numbers| !right(*numbers)) {
                 self.refusal(&features[..numbers], [scores, narrowed], 2);
             }
@@ -110,7 +112,7 @@ impl Scores {
     /// Columns of these lengths are refused, whether or not a coefficient is finite, and hold blanks.
     fn refusal(&mut self, features: &[f64], lengths: [usize; 2], wanted: u32) {
         for coefficient in [1.0, f64::NAN] {
-            self.refused(&[coefficient; WIDTH], features, lengths, wanted);
+            self.refused(&[coefficient; FEATURES], features, lengths, wanted);
         }
     }
 
@@ -118,7 +120,7 @@ impl Scores {
     fn not_finite(&mut self) {
         let mut random = Random::new(16);
         for rows in [0, 1, 2, 7, 127, 128, 129, 300] {
-            for place in 0..WIDTH {
+            for place in 0..FEATURES {
                 for pattern in NOT_FINITE {
                     let mut coefficients = finite_coefficients(&mut random);
                     let features = random_rows(&mut random, &coefficients, rows);
@@ -132,8 +134,8 @@ impl Scores {
     /// A run with result columns of these lengths is refused, and leaves blanks.
     fn refused(&mut self, coefficients: &Row, features: &[f64], [scores, narrowed]: [usize; 2], wanted: u32) {
         let (mut scores, mut narrowed) = (vec![GARBAGE; scores], vec![GARBAGE as f32; narrowed]);
-        let number = score_rows(coefficients, features, &mut scores, &mut narrowed);
-        let outcome = expect("number", number, wanted)
+        let returned = score_rows(coefficients, features, &mut scores, &mut narrowed);
+        let outcome = expect("number", returned.number, wanted)
             .and_then(|()| expect_all("score", &scores, f64::NAN))
             .and_then(|()| expect_all("narrowed", &narrowed, f32::NAN));
         let lengths = (features.len(), scores.len(), narrowed.len());
@@ -147,8 +149,8 @@ impl Scores {
     }
 }
 
-/// Whether a score is the sum from +0.0 on, in order, and sage's; sage's may be a zero of the other sign, since Rust
-/// leaves open where a sum starts.
+/// Whether a score is the sum in order, starting at +0.0, and is sage's. sage's may be a zero of the other sign, since
+/// Rust leaves open where a sum starts.
 fn is_score(port: f64, coefficients: &Row, row: &Row, sage: f64) -> bool {
     let ruled = coefficients.iter().zip(row).fold(0.0, |sum, (w, x)| sum + w * x);
     port.same(ruled) && (port.same(sage) || port == 0.0 && sage == 0.0)

@@ -1,15 +1,16 @@
 //! Elimination beside sage's Gauss::solve.
 
 use super::systems::{every_eps, System, Systems};
+use crate::calls::solve;
 use crate::report::{expect, expect_all, expect_column, Answer, Tally};
-use crate::vayemuku::fit::{solve, WIDTH};
+use host::FEATURES;
 use sage_core::ml::gauss::Gauss;
 use sage_core::ml::matrix::Matrix;
 
 /// Sizes that no system has.
 const NO_SIZE: [usize; 8] = [0, 21, 22, 40, 276, 1 << 32, (1 << 32) + 20, usize::MAX];
 
-/// Compares small systems, every special entry in every place and as many random systems; says whether nothing
+/// Compares small systems, every special entry in every place and `systems` random systems; says whether nothing
 /// differed and every try occurred.
 pub fn run(systems: u64) -> bool {
     let mut solve = Solve::new();
@@ -38,7 +39,7 @@ impl Solve {
     fn check(&mut self, system: &System) {
         self.tries.count(system);
         let outcome = compared(system);
-        self.tally.outcome(outcome.map_err(|fault| format!("{fault}, in {}", told(system))));
+        self.tally.outcome(outcome.map_err(|fault| format!("{fault}, in {}", described(system))));
     }
 
     /// A size that no system has is refused, whatever the entries are.
@@ -58,7 +59,7 @@ fn compared(system: &System) -> Result<(), String> {
     match Gauss::solve(left, right).map(Matrix::take) {
         Some(answer) => {
             expect("number", number, 0)?;
-            expect_column("answer", &values, answer.into_iter().chain([0.0; WIDTH]))
+            expect_column("answer", &values, answer.into_iter().chain([0.0; FEATURES]))
         }
         None => {
             expect("number", number, 7)?;
@@ -68,7 +69,7 @@ fn compared(system: &System) -> Result<(), String> {
 }
 
 /// A system in a report: its size, and its entries where they are few.
-fn told(system: &System) -> String {
+fn described(system: &System) -> String {
     let size = system.size;
     if size > 3 {
         return format!("a system of size {size}");

@@ -1,10 +1,11 @@
 //! The systems that elimination is tried on.
 
+use crate::calls::Row;
 use crate::cases::{partner, random_float, Random};
-use crate::vayemuku::fit::{Row, WIDTH};
+use host::FEATURES;
 use sage_core::ml::matrix::Matrix;
 
-/// Entries that decide a comparison, or that arithmetic treats in another way.
+/// Entries that decide a comparison, or that arithmetic treats as a special case.
 pub const SPECIAL: [f64; 18] = [
     0.0,
     -0.0,
@@ -26,10 +27,10 @@ pub const SPECIAL: [f64; 18] = [
     -2.0,
 ];
 
-/// Entries by which zeros of either sign come about.
+/// Entries that lead to zeros of either sign.
 const ZEROS_AND_ONES: [f64; 6] = [0.0, -0.0, 0.0, -0.0, 1.0, -1.0];
 
-/// What stands past a system's size, one of these in every place.
+/// The contents of a system past its size: one of these in every place.
 const PAST: [f64; 6] = [f64::NAN, f64::INFINITY, f64::NEG_INFINITY, 1e300, -3.5, 0.0];
 
 /// Entries of every system of size 2: with them columns have no pivot, or have one from some eps on.
@@ -43,7 +44,7 @@ const OF_SIZE_3: [f64; 5] = [0.0, 1.0, -2.0, f64::NAN, f64::NEG_INFINITY];
 #[derive(Clone)]
 pub struct System {
     pub size: usize,
-    pub left: [Row; WIDTH],
+    pub left: [Row; FEATURES],
     pub right: Row,
 }
 
@@ -51,7 +52,7 @@ impl System {
     /// A system of this size with garbage in every place.
     pub fn new(random: &mut Random, size: usize) -> Self {
         let garbage = pick(random, &PAST);
-        System { size, left: [[garbage; WIDTH]; WIDTH], right: [garbage; WIDTH] }
+        System { size, left: [[garbage; FEATURES]; FEATURES], right: [garbage; FEATURES] }
     }
 
     /// Sets each entry of the left side, row after row.
@@ -116,7 +117,7 @@ pub fn every_eps() -> Vec<f64> {
     std::iter::successors(Some(1E-8), next).collect()
 }
 
-/// The symmetric matrix of as many random rows as `rank`, as a fit has it.
+/// The symmetric matrix of `rank` random rows, as a fit has it.
 pub fn gram(random: &mut Random, system: &mut System, rank: usize) {
     let rows: Vec<Row> = (0..rank).map(|_| std::array::from_fn(|_| moderate(random))).collect();
     system.set(|i, j| rows.iter().map(|row| row[i] * row[j]).sum());
@@ -141,7 +142,7 @@ impl Systems {
         Systems { random: Random::new(seed), eps: every_eps() }
     }
 
-    /// Hands `check` every system of size 1 and 2, and every left side of size 3, with entries of a short list.
+    /// Calls `check` with every system of size 1 and 2, and every left side of size 3, with entries of a short list.
     pub fn each_small(&mut self, mut check: impl FnMut(&System)) {
         let random = &mut self.random;
         for (size, list, numbers) in [(1, &SPECIAL[..], 2), (2, &OF_SIZE_2, 6), (3, &OF_SIZE_3, 9)] {
@@ -163,9 +164,9 @@ impl Systems {
         }
     }
 
-    /// Hands `check` systems of every size with each special entry in each place.
+    /// Calls `check` with systems of every size, with each special entry in each place.
     pub fn each_place(&mut self, mut check: impl FnMut(&System)) {
-        for size in 1..=WIDTH {
+        for size in 1..=FEATURES {
             for (i, j) in (0..size).flat_map(|i| (0..=size).map(move |j| (i, j))) {
                 for special in SPECIAL {
                     for kind in [0, 5, 7] {
@@ -184,7 +185,7 @@ impl Systems {
 
     /// A random system of a random size.
     pub fn next(&mut self) -> System {
-        let size = 1 + self.random.below(WIDTH as u64) as usize;
+        let size = 1 + self.random.below(FEATURES as u64) as usize;
         self.of_size(size)
     }
 

@@ -1,10 +1,11 @@
 //! The fit beside sage's LinearDiscriminantAnalysis::train.
 
 use super::rows::random_list;
+use crate::calls::{train, Row};
 use crate::cases::Random;
 use crate::lists::{label, LONGEST};
 use crate::report::{expect, expect_all, expect_column, Tally};
-use crate::vayemuku::fit::{train, Row, WIDTH};
+use host::FEATURES;
 use sage_core::ml::linear_discriminant::LinearDiscriminantAnalysis;
 
 /// The longest random list.
@@ -22,7 +23,7 @@ impl Fits {
         Fits { tally: Tally::new("train"), kinds: [0, 6, 7].map(|number| (number, 0)) }
     }
 
-    /// Compares as many random fits.
+    /// Compares random fits.
     pub fn random(&mut self, fits: u64) {
         let mut random = Random::new(12);
         for _ in 0..fits {
@@ -38,34 +39,34 @@ impl Fits {
         let (number, port) = train(rows.as_flattened(), labels);
         let outcome = expect("number", number, wanted)
             .and_then(|()| expect_column("coefficient", &port, coefficients.into_iter()));
-        self.tally.outcome(outcome.map_err(|fault| format!("{fault}, in {}", told(labels))));
+        self.tally.outcome(outcome.map_err(|fault| format!("{fault}, in {}", described(labels))));
     }
 
     /// Lists that are too long, columns of another length, and one class alone.
     pub fn refusals(&mut self) {
-        let (labels, features) = (vec![0; LONGEST + 2], vec![0.0; WIDTH * (LONGEST + 2)]);
-        let most = WIDTH * LONGEST;
+        let (labels, features) = (vec![0; LONGEST + 2], vec![0.0; FEATURES * (LONGEST + 2)]);
+        let most = FEATURES * LONGEST;
         let long = LONGEST + 1;
         for (rows, numbers, wanted) in [
             (long, 0, 1),
             (long, most, 1),
-            (long, most + WIDTH, 1),
-            (long + 1, WIDTH, 1),
+            (long, most + FEATURES, 1),
+            (long + 1, FEATURES, 1),
             (0, most + 1, 1),
             (3, most + 1, 1),
             (LONGEST, most + 1, 1),
-            (LONGEST, most + WIDTH, 1),
+            (LONGEST, most + FEATURES, 1),
             (0, most, 2),
             (LONGEST, 0, 2),
             (LONGEST, most - 1, 2),
-            (LONGEST, most - WIDTH, 2),
+            (LONGEST, most - FEATURES, 2),
             (LONGEST - 1, most, 2),
             (LONGEST, most, 6),
         ] {
             self.refusal(&features[..numbers], &labels[..rows], wanted);
         }
         for rows in 0..8 {
-            for numbers in (0..200).filter(|numbers| *numbers != WIDTH * rows) {
+            for numbers in (0..200).filter(|numbers| *numbers != FEATURES * rows) {
                 let classes: Vec<i32> = (0..rows).map(|place| label(place % 2 == 0, place)).collect();
                 self.refusal(&features[..numbers], &classes, 2);
                 self.refusal(&features[..numbers], &labels[..rows], 2);
@@ -76,12 +77,12 @@ impl Fits {
         self.each_place();
     }
 
-    /// Lists of one class alone, of any features, which no eps solves either where they are NaN; and no list at all.
+    /// Lists of one class alone, also of NaN features, which no eps solves; and the empty list.
     fn one_class(&mut self) {
         for rows in 0..70 {
             let targets: Vec<i32> = (0..rows).map(|place| label(false, place)).collect();
             for number in [0.0, 1.0, f64::NAN, f64::INFINITY] {
-                let features = vec![number; WIDTH * rows];
+                let features = vec![number; FEATURES * rows];
                 self.refusal(&features, &targets, 6);
                 self.refusal(&features, &vec![-1; rows], 6);
             }
@@ -91,9 +92,9 @@ impl Fits {
     /// A NaN or an infinity in each place of a list of four rows.
     fn each_place(&mut self) {
         let mut random = Random::new(13);
-        for place in 0..4 * WIDTH {
+        for place in 0..4 * FEATURES {
             for number in [f64::NAN, f64::INFINITY, f64::NEG_INFINITY] {
-                let mut rows = [[0.0; WIDTH]; 4].map(|row| row.map(|_: f64| random.below(100) as f64));
+                let mut rows = [[0.0; FEATURES]; 4].map(|row| row.map(|_: f64| random.below(100) as f64));
                 rows.as_flattened_mut()[place] = number;
                 self.check(&rows, &[-1, 1, 0, -1]);
             }
@@ -130,13 +131,13 @@ pub fn fit_of_sage(rows: &[Row], labels: &[i32]) -> (u32, Vec<f64>) {
         Some(fit) => (0, fit.coefficients().to_vec()),
         None => {
             let both = decoys.contains(&true) && decoys.contains(&false);
-            (if both { 7 } else { 6 }, vec![f64::NAN; WIDTH])
+            (if both { 7 } else { 6 }, vec![f64::NAN; FEATURES])
         }
     }
 }
 
 /// A list in a report.
-fn told(labels: &[i32]) -> String {
+fn described(labels: &[i32]) -> String {
     let decoys = labels.iter().filter(|label| **label == -1).count();
     format!("{} rows with {decoys} decoys", labels.len())
 }

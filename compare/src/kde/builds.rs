@@ -1,20 +1,21 @@
 //! bin_scores, posterior_bins and slot_posterior_bins beside sage's unchanged Builder::build, the densities being those
 //! of sage's unchanged Kde::pdf at the scores that bin_scores gives.
 
+use super::buffers::Buffer;
 use super::draws::{self, Width};
-use super::lent::Lent;
 use super::reading::{bin_score, both_zeros_from, span};
-use super::{expect_same, told, Calls};
+use super::{as_hex, expect_same, Calls};
+use crate::calls::{bin_scores, Built};
 use crate::lists::{label, LONGEST};
 use crate::report::{expect, expect_column};
-use crate::vayemuku::kde::{bin_scores, posterior_bins, slot_posterior_bins, Built, Densities};
 use sage_core::ml::kde::{Builder, Kde, Parts};
 use std::cell::Cell;
+use vayemuku_sys::{posterior_bins, slot_posterior_bins, Returned};
 
-/// What stands in a column before a call.
+/// The contents of a column before a call.
 const GARBAGE: f64 = 0.012_345;
 
-/// What a build is handed.
+/// The inputs of a build.
 pub struct Case {
     pub monotonic: bool,
     pub bins: usize,
@@ -43,16 +44,16 @@ impl Case {
     }
 
     /// The case in a report.
-    fn told(&self) -> String {
+    fn described(&self) -> String {
         let Case { monotonic, bins, scores, labels, widths } = self;
         let few: Vec<&i32> = labels.iter().take(12).collect();
         let settings = format!("monotonic {monotonic}, {bins} bins, bandwidths {widths:?}");
-        format!("{settings}, {} scores {}, labels {few:?}", scores.len(), told(scores))
+        format!("{settings}, {} scores {}, labels {few:?}", scores.len(), as_hex(scores))
     }
 }
 
 impl Calls {
-    /// As many random builds, and builds of the longest lists.
+    /// Compares random builds, and builds of the longest lists.
     pub fn builds(&mut self, builds: u64) {
         for _ in 0..builds {
             let random = &mut self.random;
@@ -74,28 +75,27 @@ impl Calls {
         }
     }
 
-    /// Compares one build with sage's, the rows also as so many slots.
+    /// Compares one build with sage's, with the rows as labels and as some of `slots` slots.
     pub fn build(&mut self, case: &Case, sage: &Parts, slots: usize) {
-        let of_case = |fault| format!("{fault}, in {}", case.told());
-        let mut column = Lent::new(case.bins, GARBAGE);
-        let built = bin_scores(case.bins, &case.scores, column.column());
+        let of_case = |fault| format!("{fault}, in {}", case.described());
+        let mut column = Buffer::new(case.bins, GARBAGE);
+        let built = bin_scores(case.bins, &case.scores, column.column_mut());
         let spread = column.after().and_then(|scores| spread(case, built, sage, scores));
         self.bin_scores.outcome(spread.map_err(of_case));
         let [decoy, target] = [true, false].map(|decoys| case.density(decoys, column.column()));
-        let densities = Densities { decoy: &decoy, target: &target };
         let flag = draws::flag(&mut self.random, case.monotonic);
-        let over_labels = filled(sage, |bins| posterior_bins(flag, case.bins, &case.labels, densities, bins));
+        let over_labels = filled(sage, |bins| posterior_bins(flag, case.bins, &case.labels, &decoy, &target, bins));
         self.posterior_bins.outcome(over_labels.map_err(of_case));
         let slots = draws::slots(&mut self.random, &case.labels, slots);
-        let over_slots = filled(sage, |bins| slot_posterior_bins(flag, case.bins, &slots, densities, bins));
+        let over_slots = filled(sage, |bins| slot_posterior_bins(flag, case.bins, &slots, &decoy, &target, bins));
         self.slot_posterior_bins.outcome(over_slots.map_err(of_case));
     }
 }
 
 /// Least score and step are those of document 01's rule to the bit, and sage's. Where sage's least score is a zero, its
-/// sign is open only if zeros of both signs are among the scores. Where its step is a zero, the sign is open only if
-/// besides no score is anything but a zero or NaN: with one end that is no zero, the other's sign is lost in the
-/// difference. Bin scores are held to the Rust's expression of the port's least score and step.
+/// sign is open only if zeros of both signs are among the scores. Where its step is a zero, the sign is open only if in
+/// addition every score is a zero or NaN: with one end that is no zero, the other's sign is lost in the difference. Bin
+/// scores must equal the Rust's expression of the port's least score and step.
 fn spread(case: &Case, built: Built, sage: &Parts, bin_scores: &[f64]) -> Result<(), String> {
     let Built { number, min_score, score_step } = built;
     expect("number", number, 0)?;
@@ -121,9 +121,8 @@ pub fn expect_up_to_zero(what: &str, port: f64, sage: f64, open: bool) -> Result
 /// The call accepts, and fills a column with sage's bins, to the bit. In one build all zeros among the bins have one
 /// sign, that of the two bandwidths' product, so that the running maximum never meets zeros of both signs; and a
 /// density is the same at a bin score of either zero.
-fn filled(sage: &Parts, call: impl FnOnce(&mut [f64]) -> u32) -> Result<(), String> {
-    let mut bins = Lent::new(sage.bins.len(), GARBAGE);
-    let number = call(bins.column());
-    expect("number", number, 0)?;
+fn filled(sage: &Parts, call: impl FnOnce(&mut [f64]) -> Returned) -> Result<(), String> {
+    let mut bins = Buffer::new(sage.bins.len(), GARBAGE);
+    expect("number", call(bins.column_mut()).number, 0)?;
     expect_column("bin", bins.after()?, sage.bins.iter().copied())
 }

@@ -38,7 +38,7 @@ const NEITHER: [u32; 10] = [2, 3, 7, 255, 256, 257, 65_537, 1 << 31, (1 << 31) +
 /// Numbers that ask for monotonic bins.
 const YES: [u32; 6] = [1, 2, 256, 65_536, 1 << 31, u32::MAX];
 
-/// How a class's bandwidth comes from the one that sage works out.
+/// A class's bandwidth, from the one that sage works out.
 #[derive(Clone, Copy, Debug)]
 pub enum Width {
     Times(f64),
@@ -70,7 +70,7 @@ pub fn flag(random: &mut Random, monotonic: bool) -> u32 {
     one_of(random, &YES) * u32::from(monotonic)
 }
 
-/// A bin count: 1, 2, 3, 1000 or any up to 300, and seldom a great one.
+/// A bin count: 1, 2, 3, 1000 or any up to 300, and rarely a great one.
 pub fn bin_number(random: &mut Random) -> usize {
     match random.below(400) {
         0 => MOST_BINS,
@@ -149,7 +149,7 @@ pub fn widths(random: &mut Random) -> [Width; 2] {
     one_of(random, &[[Width::Times(own); 2], [Width::Times(own); 2], any])
 }
 
-/// The labels as a competition's slots, in their order, among so many slots in all of which the others take no part.
+/// The labels as a competition's slots, in their order, among `length` slots, of which the others take no part.
 pub fn slots(random: &mut Random, labels: &[i32], length: usize) -> Vec<u32> {
     let mut labels = labels.iter();
     let mut flags = Vec::with_capacity(length);
@@ -191,7 +191,8 @@ fn bin_column(random: &mut Random, bins: usize) -> Vec<f64> {
     (0..bins).map(&mut one).collect()
 }
 
-/// An estimator that no build need give: 1, 2, 3, 1000, 65,536 or other numbers of bins, and steps of every kind.
+/// Any estimator, also one that no build gives: 1, 2, 3, 1000, 65,536 or other numbers of bins, and steps of every
+/// kind.
 pub fn estimator(random: &mut Random) -> Parts {
     let number = match random.below(40) {
         0 => MOST_BINS,

@@ -1,14 +1,15 @@
 //! posterior_error and posterior_errors beside sage's unchanged Estimator::posterior_error.
 
+use super::buffers::Buffer;
 use super::draws;
-use super::lent::Lent;
-use super::{told, Calls};
+use super::{as_hex, Calls};
+use crate::calls::{estimator, posterior_error};
 use crate::lists::LONGEST;
 use crate::report::Answer;
-use crate::vayemuku::kde::{posterior_error, posterior_errors};
 use sage_core::ml::kde::{Estimator, Parts};
+use vayemuku_sys::{posterior_errors, EstimatorRef};
 
-/// What stands in a column before a call.
+/// The contents of a column before a call.
 const GARBAGE: f64 = 0.034_567;
 
 /// Scores for each random estimator.
@@ -19,12 +20,13 @@ const BINS: [f64; 2] = [0.5, 0.25];
 const POINTS: [(f64, f64); 3] = [(0.5, 0.375), (2.0, 0.25), (-3.0, 1.25)];
 
 impl Calls {
-    /// Document 01's points, as many random estimators, and the longest column.
+    /// Compares document 01's points, random estimators, and the longest column.
     pub fn errors(&mut self, estimators: u64) {
         for (score, error) in POINTS {
-            let answer = posterior_error(0.0, 1.0, &BINS, score);
-            let told = || format!("bins {BINS:?}, least 0, step 1, score {score}: port {answer:?}, should be {error}");
-            self.posterior_error.count(answer == (0, error), told);
+            let points = EstimatorRef { min_score: 0.0, score_step: 1.0, bins: &BINS };
+            let answer = posterior_error(points, score);
+            let words = || format!("bins {BINS:?}, least 0, step 1, score {score}: port {answer:?}, should be {error}");
+            self.posterior_error.count(answer == (0, error), words);
         }
         for _ in 0..estimators {
             let parts = draws::estimator(&mut self.random);
@@ -35,26 +37,24 @@ impl Calls {
         self.errors_around(&parts, LONGEST);
     }
 
-    /// Compares an estimator's errors on so many scores around its bins.
+    /// Compares an estimator's errors on random scores around its bins.
     pub fn errors_around(&mut self, parts: &Parts, scores: usize) {
         let scores: Vec<f64> = (0..scores).map(|_| draws::score(&mut self.random, parts)).collect();
-        let Parts { bins, min_score, score_step } = parts;
-        let mut lent = Lent::new(scores.len(), GARBAGE);
-        let number = posterior_errors(*min_score, *score_step, bins, &scores, lent.column());
-        let fault = lent.after().err().unwrap_or_default();
-        let errors = lent.column();
-        let estimator = Estimator::from_parts(parts.clone());
+        let mut errors = Buffer::new(scores.len(), GARBAGE);
+        let number = posterior_errors(estimator(parts), &scores, errors.column_mut()).number;
+        let fault = errors.after().err().unwrap_or_default();
+        let sage = Estimator::from_parts(parts.clone());
         let accepted = number == 0 && fault.is_empty();
         self.posterior_errors.count(accepted, || format!("number {number} {fault}, {}", described(parts)));
-        for (&score, &error) in scores.iter().zip(&*errors) {
-            let wanted = estimator.posterior_error(score);
-            let (number, alone) = posterior_error(*min_score, *score_step, bins, score);
-            let told = |port: f64| {
+        for (&score, &error) in scores.iter().zip(errors.column()) {
+            let wanted = sage.posterior_error(score);
+            let (number, alone) = posterior_error(estimator(parts), score);
+            let words = |port: f64| {
                 format!("port {}, sage {}, score {}, {}", port.hex(), wanted.hex(), score.hex(), described(parts))
             };
             self.posterior_error
-                .count(number == 0 && alone.same(wanted), || format!("number {number}, {}", told(alone)));
-            self.posterior_errors.count(error.same(wanted), || told(error));
+                .count(number == 0 && alone.same(wanted), || format!("number {number}, {}", words(alone)));
+            self.posterior_errors.count(error.same(wanted), || words(error));
         }
     }
 }
@@ -62,5 +62,5 @@ impl Calls {
 /// An estimator in a report.
 fn described(parts: &Parts) -> String {
     let Parts { bins, min_score, score_step } = parts;
-    format!("least {}, step {}, {} bins {}", min_score.hex(), score_step.hex(), bins.len(), told(bins))
+    format!("least {}, step {}, {} bins {}", min_score.hex(), score_step.hex(), bins.len(), as_hex(bins))
 }

@@ -1,19 +1,20 @@
-//! The calls beside sage's unchanged score_psms: the bin count and the bins of its mass model, its posterior errors and
-//! their logarithms.
+//! The calls beside sage's unchanged score_psms: the bin count and the bins of its mass errors, its posterior errors
+//! and their logarithms.
 
+use super::buffers::Buffer;
 use super::builds::Case;
 use super::draws::{between, one_of, Width};
-use super::lent::Lent;
 use super::tolerances::{counted, UNITS};
 use super::Calls;
+use crate::calls::{bin_count, estimator};
 use crate::cases::Random;
 use crate::lists::label;
 use crate::report::{expect, expect_column};
-use crate::vayemuku::kde::{bin_count, log_errors, posterior_errors};
 use sage_core::mass::Tolerance;
 use sage_core::ml::kde::{recording, Build};
 use sage_core::ml::linear_discriminant::score_psms;
 use sage_core::scoring::Feature;
+use vayemuku_sys::{log_errors, posterior_errors};
 
 /// Runs of score_psms.
 const RUNS: usize = 500;
@@ -21,7 +22,7 @@ const RUNS: usize = 500;
 /// Widths of tolerances: both least numbers of bins, the most bins, and beside them.
 const WIDTHS: [f32; 12] = [0.0, 20.0, 99.5, 100.0, 100.5, 151.0, 999.9, 1000.0, 1000.1, 65_535.5, 65_536.0, 65_536.01];
 
-/// What stands in columns before a call.
+/// The contents of columns before a call.
 const GARBAGE: f64 = 0.056_789;
 
 impl Calls {
@@ -33,7 +34,7 @@ impl Calls {
             let tolerance = [Tolerance::Ppm, Tolerance::Da][unit](lo, hi);
             let mut rows = rows(&mut self.random);
             let (answer, builds) = recording(|| score_psms(&mut rows, tolerance));
-            self.mass_model(unit, lo, hi, &rows, &builds[0]);
+            self.mass_errors(unit, lo, hi, &rows, &builds[0]);
             if answer.is_some() {
                 self.discriminants(&rows, &builds[1]);
             }
@@ -41,7 +42,7 @@ impl Calls {
     }
 
     /// The bin count is the number of bins of score_psms's first build, and the bins are its bins.
-    fn mass_model(&mut self, unit: usize, lo: f32, hi: f32, rows: &[Feature], build: &Build) {
+    fn mass_errors(&mut self, unit: usize, lo: f32, hi: f32, rows: &[Feature], build: &Build) {
         let (unit, least) = UNITS[unit];
         let bins = build.estimator.bins.len();
         let wanted = match counted(lo, hi, least) {
@@ -58,7 +59,7 @@ impl Calls {
         }
     }
 
-    /// The bins of score_psms's second build, of 1000 and monotonic, and what the rows got from them.
+    /// The bins of score_psms's second build, 1000 and monotonic, and the posterior errors of the rows.
     fn discriminants(&mut self, rows: &[Feature], build: &Build) {
         let (scores, widths) = (build.scores.clone(), [Width::Times(1.0); 2]);
         let case = Case { monotonic: true, bins: 1000, scores, labels: labels(rows), widths };
@@ -70,13 +71,12 @@ impl Calls {
 
 /// The port's posterior errors, their log10 by Rust and the port's rule for it give what score_psms gave the rows.
 fn logs_of_rows(rows: &[Feature], build: &Build) -> Result<(), String> {
-    let parts = &build.estimator;
-    let mut errors = Lent::new(rows.len(), GARBAGE);
-    let number = posterior_errors(parts.min_score, parts.score_step, &parts.bins, &build.scores, errors.column());
-    expect("number of posterior_errors", number, 0)?;
+    let mut errors = Buffer::new(rows.len(), GARBAGE);
+    let returned = posterior_errors(estimator(&build.estimator), &build.scores, errors.column_mut());
+    expect("number of posterior_errors", returned.number, 0)?;
     let log10s: Vec<f64> = errors.after()?.iter().map(|error| error.log10()).collect();
-    let mut logs = Lent::new(rows.len(), GARBAGE as f32);
-    expect("number", log_errors(&log10s, logs.column()), 0)?;
+    let mut logs = Buffer::new(rows.len(), GARBAGE as f32);
+    expect("number", log_errors(&log10s, logs.column_mut()).number, 0)?;
     expect_column("logarithm", logs.after()?, rows.iter().map(|row| row.posterior_error))
 }
 
@@ -99,7 +99,7 @@ fn labels(rows: &[Feature]) -> Vec<i32> {
     rows.iter().map(|row| row.label).collect()
 }
 
-/// From 2 to 30 rows. Those of targets are better, in every second list so much that the error of some is zero.
+/// From 2 to 30 rows. Those of targets are better, in every second list so far that the error of some is zero.
 fn rows(random: &mut Random) -> Vec<Feature> {
     let better = one_of(random, &[2.0, 500.0]);
     (0..2 + random.below(29)).map(|place| row(random, place as usize, better)).collect()

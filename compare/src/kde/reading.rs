@@ -1,11 +1,17 @@
-//! Lines that stand inside functions of sage's, quoted, and document 01's questions on lengths and bins.
+//! Lines from inside functions of sage's, quoted, and document 01's questions on lengths and bins.
 
 use crate::floats::{first_greatest, first_least};
 use crate::lists::LONGEST;
-use crate::vayemuku::kde::Densities;
 
-/// The most bins that question 3 lets pass.
+/// The most bins that question 3 allows.
 pub const MOST_BINS: usize = 65_536;
+
+/// The densities of decoys and of targets at the scores of the bins.
+#[derive(Clone, Copy)]
+pub struct DensityPair<'a> {
+    pub decoy: &'a [f64],
+    pub target: &'a [f64],
+}
 
 /// Builder::build: the least score and the step. Where two zeros meet, the accumulated one is kept: document 01's rule.
 pub fn span(bins: usize, scores: &[f64]) -> (f64, f64) {
@@ -23,8 +29,8 @@ pub fn bin_score(bin: usize, min_score: f64, score_step: f64) -> f64 {
     (bin as f64 * score_step) + min_score
 }
 
-/// Builder::build: the bins, from densities in place of pdf's.
-pub fn mixed(pi: f64, densities: Densities) -> Vec<f64> {
+/// Builder::build: the bins, from these densities instead of pdf's.
+pub fn mixed(pi: f64, densities: DensityPair) -> Vec<f64> {
     let bin = |(decoy, target): (&f64, &f64)| {
         let decoy = decoy * pi;
         let target = target * (1.0 - pi);
@@ -63,8 +69,8 @@ pub fn in_range(bins: usize) -> bool {
     (1..=MOST_BINS).contains(&bins)
 }
 
-/// The first of questions 1 to 3 that is answered with no, or 0: of a list of so many rows, columns of these lengths
-/// where `length` is stated, and so many bins.
+/// The first of questions 1 to 3 that is answered with no, or 0: of a list of `rows` rows, of columns with these
+/// lengths where `length` is stated, and of `bins` bins.
 pub fn refusal(rows: usize, columns: &[usize], length: usize, bins: usize) -> u32 {
     if rows > LONGEST {
         1

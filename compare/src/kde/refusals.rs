@@ -1,13 +1,14 @@
-//! Refusals of the calls that are lent columns: the number of the first question answered with no, and blanks.
+//! Refusals of the calls that take columns: the number of the first question answered with no, and blanks.
 
-use super::lent::Lent;
+use super::buffers::Buffer;
 use super::reading::{refusal, MOST_BINS};
 use super::{expect_same, Calls};
+use crate::calls::{bin_scores, posterior_error};
 use crate::lists::{label, LONGEST};
 use crate::report::{expect, expect_all, Answer};
-use crate::vayemuku::kde::*;
+use vayemuku_sys::{log_errors, posterior_bins, posterior_errors, slot_posterior_bins, EstimatorRef};
 
-/// What stands in a column before a call.
+/// The contents of a column before a call.
 const GARBAGE: f64 = 0.067_891;
 
 /// Numbers of rows: a few, the most, and too many.
@@ -23,7 +24,7 @@ const PLACES: [usize; 6] = [0, 1, 2, 1000, MOST_BINS, MOST_BINS + 1];
 /// Lengths of columns that have a place for each row.
 const ERRORS: [usize; 5] = [0, 2, 3, 4, LONGEST + 1];
 
-/// The input columns, of which a call gets a part, too long as a whole.
+/// The input columns, too long as a whole; a call gets a part of them.
 struct Inputs {
     floats: Vec<f64>,
     labels: Vec<i32>,
@@ -41,14 +42,14 @@ impl Inputs {
         }
     }
 
-    /// Density columns of these lengths.
-    fn densities(&self, decoy: usize, target: usize) -> Densities<'_> {
-        Densities { decoy: &self.floats[..decoy], target: &self.floats[..target] }
+    /// An estimator with this number of bins.
+    fn estimator(&self, bins: usize) -> EstimatorRef<'_> {
+        EstimatorRef { min_score: 0.25, score_step: 0.5, bins: &self.floats[..bins] }
     }
 }
 
 impl Calls {
-    /// Every call that is lent columns, and the one that is lent bins.
+    /// Every call that takes columns, and the one that takes bins.
     pub fn refusals(&mut self) {
         let inputs = Inputs::new();
         self.bin_scores_refusals(&inputs);
@@ -57,7 +58,7 @@ impl Calls {
         self.logs_refusals(&inputs);
         for bins in PLACES.into_iter().chain([MOST_BINS + 2, 2 * MOST_BINS, 2 * MOST_BINS + 1, LONGEST + 1]) {
             let wanted = refusal(0, &[], 0, bins);
-            let (number, error) = posterior_error(0.25, 0.5, &inputs.floats[..bins], 0.75);
+            let (number, error) = posterior_error(inputs.estimator(bins), 0.75);
             let blank = if wanted == 0 { error } else { f64::NAN };
             let outcome = expect("number", number, wanted).and_then(|()| expect_same("error", error, blank));
             self.posterior_error.outcome(outcome.map_err(|fault| format!("{fault}, {bins} bins")));
@@ -68,8 +69,8 @@ impl Calls {
     fn bin_scores_refusals(&mut self, inputs: &Inputs) {
         for [rows, bins, places] in choices([&ROWS, &BINS, &PLACES]) {
             let wanted = refusal(rows, &[places], bins, bins);
-            let mut column = Lent::new(places, GARBAGE);
-            let built = bin_scores(bins, &inputs.floats[..rows], column.column());
+            let mut column = Buffer::new(places, GARBAGE);
+            let built = bin_scores(bins, &inputs.floats[..rows], column.column_mut());
             let outcome = blank(wanted, built.number, &column, f64::NAN).and_then(|()| match wanted {
                 0 => Ok(()),
                 _ => expect_all("least score and step", &[built.min_score, built.score_step], f64::NAN),
@@ -83,28 +84,28 @@ impl Calls {
         let some = [PLACES[0], PLACES[1], PLACES[4], PLACES[5]];
         for [rows, count, decoy, target, places] in choices([&ROWS[1..4], &BINS, &some, &some, &some]) {
             let wanted = refusal(rows, &[decoy, target, places], count, count);
-            let densities = inputs.densities(decoy, target);
-            let told = |fault| format!("{fault}, {rows} rows, {count} bins, lengths {decoy}, {target}, {places}");
-            let (mut over_labels, mut over_slots) = (Lent::new(places, GARBAGE), Lent::new(places, GARBAGE));
-            let number = posterior_bins(1, count, &inputs.labels[..rows], densities, over_labels.column());
-            self.posterior_bins.outcome(blank(wanted, number, &over_labels, f64::NAN).map_err(told));
-            let number = slot_posterior_bins(1, count, &inputs.flags[..rows], densities, over_slots.column());
-            self.slot_posterior_bins.outcome(blank(wanted, number, &over_slots, f64::NAN).map_err(told));
+            let (decoys, targets) = (&inputs.floats[..decoy], &inputs.floats[..target]);
+            let described = |fault| format!("{fault}, {rows} rows, {count} bins, lengths {decoy}, {target}, {places}");
+            let (mut over_labels, mut over_slots) = (Buffer::new(places, GARBAGE), Buffer::new(places, GARBAGE));
+            let returned = posterior_bins(1, count, &inputs.labels[..rows], decoys, targets, over_labels.column_mut());
+            self.posterior_bins.outcome(blank(wanted, returned.number, &over_labels, f64::NAN).map_err(described));
+            let returned =
+                slot_posterior_bins(1, count, &inputs.flags[..rows], decoys, targets, over_slots.column_mut());
+            self.slot_posterior_bins.outcome(blank(wanted, returned.number, &over_slots, f64::NAN).map_err(described));
         }
     }
 
     /// Posterior errors of a column.
     fn errors_refusals(&mut self, inputs: &Inputs) {
         for [rows, places, bins] in choices([&ROWS, &ERRORS, &PLACES]) {
-            // a long column is lent where it has the stated length, and else beside no bins
+            // a long column is tried where it has the stated length, and otherwise only with no bins
             if places > LONGEST && places != rows && bins != 0 {
                 continue;
             }
             let wanted = refusal(rows, &[places], rows, bins);
-            let mut column = Lent::new(places, GARBAGE);
-            let (bins_lent, scores) = (&inputs.floats[..bins], &inputs.floats[..rows]);
-            let number = posterior_errors(0.25, 0.5, bins_lent, scores, column.column());
-            let outcome = blank(wanted, number, &column, f64::NAN);
+            let mut column = Buffer::new(places, GARBAGE);
+            let returned = posterior_errors(inputs.estimator(bins), &inputs.floats[..rows], column.column_mut());
+            let outcome = blank(wanted, returned.number, &column, f64::NAN);
             self.posterior_errors
                 .outcome(outcome.map_err(|fault| format!("{fault}, {rows} rows, {places}, {bins} bins")));
         }
@@ -114,8 +115,8 @@ impl Calls {
     fn logs_refusals(&mut self, inputs: &Inputs) {
         for [rows, places] in choices([&ROWS, &ERRORS]) {
             let wanted = refusal(rows, &[places], rows, 1);
-            let mut column = Lent::new(places, GARBAGE as f32);
-            let number = log_errors(&inputs.floats[..rows], column.column());
+            let mut column = Buffer::new(places, GARBAGE as f32);
+            let number = log_errors(&inputs.floats[..rows], column.column_mut()).number;
             let outcome = blank(wanted, number, &column, f32::NAN);
             self.log_errors.outcome(outcome.map_err(|fault| format!("{fault}, {rows} rows, {places}")));
         }
@@ -123,7 +124,7 @@ impl Calls {
 }
 
 /// The number is the one wanted, and where that refuses, the column holds blanks; nothing beside it was written.
-fn blank<T: Answer>(wanted: u32, number: u32, column: &Lent<T>, blank: T) -> Result<(), String> {
+fn blank<T: Answer>(wanted: u32, number: u32, column: &Buffer<T>, blank: T) -> Result<(), String> {
     expect("number", number, wanted)?;
     let column = column.after()?;
     match wanted {

@@ -2,9 +2,9 @@
 
 use super::reading::{bins_across, in_range};
 use super::Calls;
+use crate::calls::bin_count;
 use crate::cases::{each_pair, Plan, Random};
 use crate::report::expect;
-use crate::vayemuku::kde::bin_count;
 
 /// The units that have a bin count, with the least number of bins.
 pub const UNITS: [(u32, f32); 2] = [(0, 100.0), (1, 1000.0)];
@@ -22,8 +22,8 @@ const POINTS: [(u32, f32, f32, (u32, usize)); 5] = [
 const WIDEST: u32 = 70_000;
 
 impl Calls {
-    /// Document 01's points, every pair of boundaries, as many random pairs as planned, and widths at every whole
-    /// number and up to two places beside it.
+    /// Compares document 01's points, every pair of boundaries, the planned number of random pairs, and widths at every
+    /// whole number and up to two places beside it.
     pub fn tolerances(&mut self, plan: &Plan) {
         for (unit, lo, hi, wanted) in POINTS {
             self.bin_count.outcome(expect(&format!("unit {unit} from {lo} to {hi}"), bin_count(unit, lo, hi), wanted));

@@ -7,22 +7,24 @@ use crate::sage::{precursors, Rows};
 use std::io::Result;
 use std::path::Path;
 
-/// Targets before every pattern of up to so many labels, about one in 100 for spectra, and about one in 20 for precursors.
+/// Numbers of targets, and the most labels of the patterns after them: about one in 100 for spectra, and one in 20 for
+/// precursors.
 const SPECTRA: [(usize, usize); 5] = [(0, 9), (98, 3), (100, 3), (197, 3), (200, 3)];
 const PRECURSORS: [(usize, usize); 5] = [(0, 9), (19, 3), (20, 3), (37, 4), (40, 4)];
 
-/// So many random lists of up to so many rows.
+/// The number of random lists, and their most rows.
 const RANDOM: usize = 930;
 const LONGEST: u64 = 24;
 
 /// The layout.
-const FILES: &str = "`spectrum_q_value`: the number of rows as u32, labels, rows * i32, q-values, rows * f32, and the count as u32.
+const FILES: &str = "\
+`spectrum_q_value`: the number of rows as u32, labels, rows * i32, q-values, rows * f32, and the count as u32.
 
-`picked_precursor`: the number of rows as u32, labels, rows * i32, scores, rows * f64, q-values, rows * f32, and the count as u32. The
-scores differ as f32, since sage ranks equal ones in the order of its map.
+`picked_precursor`: the number of rows as u32, labels, rows * i32, scores, rows * f64, q-values, rows * f32, and the
+count as u32. The scores differ as f32, since sage ranks equal ones in the order of its map.
 
-The lists: every pattern of up to nine decoys and targets, patterns behind so many targets that rows are at and beside one in 100 or
-one in 20, and random lists of up to 24 rows.
+The lists: every pattern of up to nine decoys and targets, patterns after numbers of targets at which rows are at and
+beside one in 100 or one in 20, and random lists of up to 24 rows.
 ";
 
 /// Records lists of either sort.
@@ -45,7 +47,7 @@ pub fn record(folder: &Path) -> Result<()> {
     describe(folder, FILES)
 }
 
-/// Hands `record` every list.
+/// Calls `record` with every list.
 fn each_list(random: &mut Random, heads: [(usize, usize); 5], mut record: impl FnMut(&mut Random, &[i32])) {
     heads.iter().for_each(|(head, longest)| each_pattern(*head, *longest, |labels| record(random, labels)));
     for _ in 0..RANDOM {

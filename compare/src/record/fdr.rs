@@ -4,40 +4,43 @@ use super::file::{describe, until, Recording};
 use crate::cases::Random;
 use crate::fdr::draws::{self, Rows};
 use crate::fdr::picked::{Function, Sage};
-use crate::fdr::reading::{Columns, Names};
+use crate::fdr::reading::CompetitionTable;
 use crate::kde::reading::both_zeros_from;
+use host::Names;
 use sage_core::ml::kde::Parts;
 use std::io::Result;
 use std::path::Path;
 
-/// So many lists over up to so many slots, most of up to so many rows.
+/// The number of lists, their most slots, and the most rows of most of them.
 const LISTS: usize = 2_000;
 const MOST_SLOTS: usize = 210;
 const FEW_ROWS: usize = 10;
 
-/// Every so many lists one has about 100 slots or 200, and up to so many rows.
+/// One list in this many has about 100 slots or 200, and up to this many rows.
 const MANY_EACH: usize = 40;
 const MANY_ROWS: usize = 240;
 
-/// The most bins that are forced on sage. One list in so many gets the 1000 bins that sage fits.
+/// The most bins that are forced on sage. One list in this many gets the 1000 bins that sage fits.
 const MOST_BINS: usize = 5;
 const FITTED_EACH: usize = 500;
 
 /// The layout.
-const FILES: &str = "`picked_protein` and `picked_protein_group`: 1 or 2 as u32 for the names of a slot's two sides, the number of bins as u32,
-the bins, bins * f64, least score and step, f64, the number of slots and of rows as u32, the rows' slots, rows * u32, labels, rows *
-i32, and scores, rows * f32, q-values, rows * f32, and the count as u32. Slot k is the protein or group of the k-th name.
+const FILES: &str = "\
+`picked_protein` and `picked_protein_group`: 1 or 2 as u32 for the names of a slot's two sides, the number of bins as
+u32, the bins, bins * f64, least score and step, f64, the number of slots and of rows as u32, the rows' slots, rows *
+u32, labels, rows * i32, and scores, rows * f32, q-values, rows * f32, and the count as u32. Slot k is the protein or
+group of the k-th name.
 
-Most estimators are handed to sage in place of the one that it fits; some are those that it fits. The best scores of all sides differ
-as numbers, as document 01 has it. No case has scores, or ratios of a running minimum, that are zeros of both signs: Rust leaves open
-which one is kept.
+Most estimators are given to sage instead of the one that it fits; some are those that it fits. The best scores of all
+sides differ as numbers, as document 01 has it. No case has scores, or ratios of a running minimum, that are zeros of
+both signs: Rust leaves open which one is kept.
 ";
 
-/// A list of rows over so many slots, with its table.
+/// A list of rows, with the number of its slots and its table.
 struct List {
     slots: usize,
     rows: Rows,
-    table: Columns,
+    table: CompetitionTable,
 }
 
 /// Records lists of either function.
@@ -62,7 +65,7 @@ fn drawn(random: &mut Random, turn: usize) -> List {
     };
     let short = |list: &(usize, Rows)| list.0 <= MOST_SLOTS && fits(list);
     let (slots, rows) = until(|| draws::distinct_rows(random), short);
-    let mut table = Columns::fresh(slots);
+    let mut table = CompetitionTable::fresh(slots);
     table.add(rows.all());
     List { slots, rows, table }
 }

@@ -1,5 +1,5 @@
-//! A recording: the number of its cases, their numbers one after the other, least byte first, and an end mark. Beside it stands
-//! one of some of its cases with a wrong bit in each.
+//! A recording: the number of its cases, their numbers one after the other, least byte first, and an end mark. Beside
+//! it is another, with some of its cases and a wrong bit in each.
 
 use super::flips::{flipped, Column};
 use crate::report::Answer;
@@ -7,27 +7,28 @@ use std::fs;
 use std::io::Result;
 use std::path::Path;
 
-/// Stands at the end of a recording.
+/// The end of a recording.
 const END: u64 = 0x4445_5941_4c50_4552;
 
-/// What stands in each README.md.
+/// The start of each README.md.
 const HEAD: &str = "# Recorded answers
 
 Answers of lazear/sage's unchanged Rust at 4a051b214b, written by `make record` (`compare/src/record.rs` and the files
 beside it say how the cases are drawn). The same bytes come each time.
 
-Each file: the number of cases as u64, the cases, and the u64 0x444559414C504552. Numbers stand least byte first, floats
-as their bits, every NaN as 7FC00000 or 7FF8000000000000. `n * f64` is so many floats.
+Each file: the number of cases as u64, the cases, and the u64 0x444559414C504552. Numbers are stored least byte first,
+floats as their bits, every NaN as 7FC00000 or 7FF8000000000000. `n * f64` is n floats.
 
 ";
 
-/// What stands behind the layout.
+/// The end of each README.md.
 const FOOT: &str = "
-FILE.flipped has 72 cases of FILE, of at most 900 bytes each, with wrong answers: in each case one bit of one answer is flipped, and
-nothing else. FILE's cases agree, so that each of these must differ, by that bit alone. Every answer of the layout has its turn, a
-column at its first place, at its last and between. No NaN is made of a NaN. A number that says whether numbers follow is flipped only
-where as much is read afterwards. No flip reaches what is held against a constant, or against another call's answer, and is not
-recorded: the blanks of a refusal, zeros past a size, cleared working columns, the f64 score of a scoring run.
+FILE.flipped has 72 cases of FILE, of at most 900 bytes each, with wrong answers: in each case one bit of one answer
+is flipped, and nothing else. FILE's cases agree, so that each of these must differ, by that bit alone. Every answer
+of the layout has its turn, a column at its first place, at its last and between. No NaN is made of a NaN. A number
+that says whether numbers follow is flipped only where as much is read afterwards. No flip reaches what is compared
+with a constant, or with another call's answer, and is not recorded: the blanks of a refusal, zeros past a size,
+cleared working columns, the f64 score of a scoring run.
 ";
 
 /// The cases of one function so far, and where their answers are.

@@ -9,19 +9,22 @@ use sage_core::ml::linear_discriminant::LinearDiscriminantAnalysis;
 use std::io::Result;
 use std::path::Path;
 
-/// So many fits of lists of up to so many rows.
+/// Numbers of fits, each with the most rows of a list.
 const FITS: [(usize, u64); 2] = [(2_000, 4), (20, 60)];
 
-/// So many scores.
+/// The number of scores.
 const SCORES: usize = 2_000;
 
 /// The layout.
-const FILES: &str = "`train`, LinearDiscriminantAnalysis::train: the number of rows as u32, labels, rows * i32, features, rows * 20 * f64, then 0
-as u32 and the coefficients, 20 * f64, or only a refusal as u32: sage answers None, and it is 6 where a class is absent, else 7.
+const FILES: &str = "\
+`train`, LinearDiscriminantAnalysis::train: the number of rows as u32, labels, rows * i32, features, rows * 20 * f64,
+then 0 as u32 and the coefficients, 20 * f64, or only a refusal as u32: sage answers None, and it is 6 where a class
+is absent, else 7.
 
-`score`, LinearDiscriminantAnalysis::score: coefficients, 20 * f64, a row, 20 * f64, its score, f64, then 0 as u32 and the score
-narrowed by Rust's `as f32`, f32, or only 8 as u32 where a coefficient is not finite, as score_psms refuses it. Rust leaves open
-where a sum starts: a score that is a zero is recorded with the sign that the sum from +0.0 on has.
+`score`, LinearDiscriminantAnalysis::score: coefficients, 20 * f64, a row, 20 * f64, its score, f64, then 0 as u32 and
+the score narrowed by Rust's `as f32`, f32, or only 8 as u32 where a coefficient is not finite, as score_psms refuses
+it. Rust leaves open where a sum starts: a score that is a zero is recorded with the sign that the sum from +0.0 on
+has.
 ";
 
 /// Records fits of few rows, some of more, and scores.

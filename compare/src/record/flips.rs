@@ -6,7 +6,7 @@ use crate::report::Answer;
 use std::collections::BTreeSet;
 use std::ops::Range;
 
-/// So many wrong cases, of so many bytes each at most.
+/// The number of wrong cases, and the most bytes of each.
 const WRONG: usize = 72;
 const MOST_BYTES: usize = 900;
 
@@ -17,8 +17,8 @@ pub struct Column {
     pub places: Vec<Range<usize>>,
 }
 
-/// Small cases with a flipped bit. Each name has its turn, with a column's first place, its last and one between; every other round takes
-/// no NaN.
+/// Small cases with a flipped bit. Each name has its turn, with a column's first place, its last and one between; every
+/// other round takes no NaN.
 pub fn flipped(cases: &[Vec<u8>], answers: &[Column]) -> Vec<Vec<u8>> {
     let mut random = Random::new(36);
     let small: Vec<&Column> = answers.iter().filter(|column| cases[column.case].len() <= MOST_BYTES).collect();
@@ -40,7 +40,7 @@ pub fn flipped(cases: &[Vec<u8>], answers: &[Column]) -> Vec<Vec<u8>> {
     (0..WRONG).map(wrong).collect()
 }
 
-/// The columns of a name that have three places or more, or as many as the longest.
+/// The columns of a name that have three places or more; if none has, the longest.
 fn with_places<'a>(columns: &[&'a Column], name: &str) -> Vec<&'a Column> {
     let named = columns.iter().copied().filter(|column| column.name == name);
     let longest = named.clone().map(|column| column.places.len()).max().expect("a small case has each name");

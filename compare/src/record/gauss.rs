@@ -2,25 +2,27 @@
 
 use super::file::{describe, until, Recording};
 use crate::fit::systems::{every_eps, System, Systems};
-use crate::vayemuku::fit::WIDTH;
+use host::FEATURES;
 use sage_core::ml::gauss::Gauss;
 use sage_core::ml::matrix::Matrix;
 use std::io::Result;
 use std::path::Path;
 
-/// One system in so many of those that `each_small` gives of sizes 2 and 3 is recorded, and every one of size 1.
+/// By size, one system in this many of those that `each_small` gives is recorded.
 const STEPS: [usize; 4] = [1, 1, 787, 3_907];
 
-/// So many numbers as random systems of each size, divided by the size.
+/// The number of random systems of each size is this, divided by the size.
 const OF_EACH_SIZE: usize = 150;
 
 /// For each eps a system of each size from 2 to this that sage solves there first.
 const LATE_SIZES: usize = 6;
 
 /// The layout.
-const FILES: &str = "`solve`, Gauss::solve: the size as u32, the left side row after row, size * size * f64, the right side, size * f64,
-0 as u32 and the answer, size * f64, or only 7 as u32 where no eps solves the system. The systems: every one of size 1 with
-entries of a list of boundaries, some of sizes 2 and 3, random ones of sizes 1 to 20, and for each eps some that it solves first.
+const FILES: &str = "\
+`solve`, Gauss::solve: the size as u32, the left side row after row, size * size * f64, the right side, size * f64, 0
+as u32 and the answer, size * f64, or only 7 as u32 where no eps solves the system. The systems: every one of size 1
+with entries of a list of boundaries, some of sizes 2 and 3, random ones of sizes 1 to 20, and for each eps some that
+it solves first.
 ";
 
 /// Records small systems with boundaries as entries, and random systems of every size.
@@ -35,7 +37,7 @@ pub fn record(folder: &Path) -> Result<()> {
         }
         *turn += 1;
     });
-    for size in 1..=WIDTH {
+    for size in 1..=FEATURES {
         for _ in 0..OF_EACH_SIZE / size {
             add(&mut recording, &maker.of_size(size));
         }

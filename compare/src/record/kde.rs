@@ -9,23 +9,24 @@ use sage_core::ml::kde::Estimator;
 use std::io::Result;
 use std::path::Path;
 
-/// So many builds, of up to so many rows and so many bins.
+/// The number of builds, their most rows and their most bins.
 const BUILDS: usize = 2_000;
 const MOST_ROWS: usize = 10;
 const MOST_BINS: usize = 8;
 
-/// So many errors, of estimators of up to so many bins.
+/// The number of errors, and the most bins of their estimators.
 const ERRORS: usize = 2_100;
 const MOST_OF_ERRORS: usize = 40;
 
 /// The layout.
-const FILES: &str = "`build`, Builder::build: 1 as u32 for monotonic bins and else 0, the number of bins and of rows as u32, labels, rows * i32,
-scores, rows * f64, least score and step, f64, the score of every bin, bins * f64, the densities of decoys and of targets that sage's
-kernel gives there, bins * f64 each, and the bins, bins * f64. No case has scores that are zeros of both signs: Rust leaves the sign
-of their minimum open.
+const FILES: &str = "\
+`build`, Builder::build: 1 as u32 for monotonic bins and else 0, the number of bins and of rows as u32, labels, rows *
+i32, scores, rows * f64, least score and step, f64, the score of every bin, bins * f64, the densities of decoys and of
+targets that sage's kernel gives there, bins * f64 each, and the bins, bins * f64. No case has scores that are zeros
+of both signs: Rust leaves the sign of their minimum open.
 
-`posterior_error`, Estimator::posterior_error: the number of bins as u32, the bins, bins * f64, least score, step, a score and its
-posterior error, f64.
+`posterior_error`, Estimator::posterior_error: the number of bins as u32, the bins, bins * f64, least score, step, a
+score and its posterior error, f64.
 ";
 
 /// Records builds and posterior errors.

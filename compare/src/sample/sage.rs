@@ -1,7 +1,7 @@
 //! sage's unchanged functions over the sample, and the densities that they took.
 
 use super::table::{Row, TAG};
-use super::Line;
+use super::ListRow;
 use host::Densities;
 use sage_core::database::IndexedDatabase;
 use sage_core::fdr::picked_protein;
@@ -14,8 +14,8 @@ use sage_core::scoring::Feature;
 use std::collections::HashMap;
 use std::sync::Arc;
 
-/// What sage's functions left, one after the other.
-pub struct Strung {
+/// The results of sage's functions, one after the other.
+pub struct SageRun {
     /// The rows as ranked.
     pub features: Vec<Feature>,
     /// The estimators of mass errors, of scores and of proteins.
@@ -25,9 +25,9 @@ pub struct Strung {
     pub proteins: usize,
 }
 
-impl Strung {
-    /// Scores, ranks and judges rows, with decoys that sage generated; None where score_psms gives nothing.
-    pub fn run(rows: &[Row], tolerance: host::Tolerance) -> Option<Strung> {
+impl SageRun {
+    /// Scores and ranks rows, and assigns q-values, with decoys that sage generated; None where score_psms gives none.
+    pub fn run(rows: &[Row], tolerance: host::Tolerance) -> Option<SageRun> {
         let mut features: Vec<Feature> = rows.iter().map(|row| row.feature.clone()).collect();
         let (scored, mut builds) = recording(|| score_psms(&mut features, of_sage(tolerance)));
         scored?;
@@ -36,12 +36,12 @@ impl Strung {
         let db = database(rows);
         let (proteins, build) = recording(|| picked_protein(&db, &mut features));
         builds.extend(build);
-        Some(Strung { features, builds, spectra, proteins })
+        Some(SageRun { features, builds, spectra, proteins })
     }
 
-    /// sage's lines.
-    pub fn lines(&self) -> impl Iterator<Item = Line> + '_ {
-        self.features.iter().map(|feature| Line {
+    /// sage's rows.
+    pub fn list_rows(&self) -> impl Iterator<Item = ListRow> + '_ {
+        self.features.iter().map(|feature| ListRow {
             row: feature.peptide_idx.0 as usize,
             score: feature.discriminant_score,
             posterior_error: feature.posterior_error,
@@ -88,12 +88,12 @@ fn database(rows: &[Row]) -> IndexedDatabase {
     }
 }
 
-/// sage's densities: its kernels over the samples that its builds were handed, in their order.
+/// sage's densities: its kernels over the samples of its builds, in their order.
 pub struct Recorded<'a> {
     builds: &'a [Build],
     /// How many densities were taken.
     pub taken: usize,
-    /// How many samples hold other numbers than sage's.
+    /// How many samples differ from sage's.
     pub differ: usize,
 }
 
@@ -117,7 +117,7 @@ impl Densities for Recorded<'_> {
     }
 }
 
-/// The bits of numbers, in order: sage's map hands proteins over in another order than their slots'.
+/// The bits of numbers, sorted: sage's map has proteins in another order than their slots'.
 fn sorted(sample: &[f64]) -> Vec<u64> {
     let mut bits: Vec<u64> = sample.iter().map(|number| number.to_bits()).collect();
     bits.sort();

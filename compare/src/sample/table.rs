@@ -1,6 +1,6 @@
 //! The sample's table, and a list of it, in cells.
 
-use super::Line;
+use super::ListRow;
 use host::Psm;
 use sage_core::database::PeptideIx;
 use sage_core::scoring::Feature;
@@ -48,8 +48,8 @@ impl Cells {
         self.rows.iter().enumerate().map(|(place, row)| self.row(place, row)).collect()
     }
 
-    /// One row: the columns of sage's results table, by the fields that sage writes them from. Outputs come in as
-    /// scoring.rs makes them.
+    /// One row: the columns of sage's results table, in the fields that sage writes them from. Outputs start with the
+    /// values that scoring.rs gives them.
     fn row(&self, place: usize, row: &[String]) -> Row {
         let feature = Feature {
             peptide_idx: PeptideIx(place as u32),
@@ -86,9 +86,9 @@ impl Cells {
         Row { feature, proteins: proteins.collect() }
     }
 
-    /// The lines of a list; psm_id is one more than the place in the sample.
-    pub fn lines(&self) -> Vec<Line> {
-        let line = |row: &Vec<String>| Line {
+    /// The rows of a list; psm_id is one more than the place in the sample.
+    pub fn list_rows(&self) -> Vec<ListRow> {
+        let line = |row: &Vec<String>| ListRow {
             row: self.number::<usize>(row, "psm_id") - 1,
             score: self.number(row, "sage_discriminant_score"),
             posterior_error: self.number(row, "posterior_error"),

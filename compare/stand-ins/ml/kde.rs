@@ -1,5 +1,5 @@
-//! Stands where sage's ml/kde.rs stands, and hands every call on to it, kde/unchanged.rs. A build can be told which
-//! estimator to give, or recorded: fdr.rs and linear_discriminant.rs keep the estimators that they build to themselves.
+//! In the place of sage's ml/kde.rs: passes every call on to it, as kde/unchanged.rs. A build can be forced to give an
+//! estimator, or recorded: fdr.rs and linear_discriminant.rs do not return the estimators that they build.
 
 use super::*;
 use std::cell::RefCell;
@@ -7,7 +7,7 @@ use std::cell::RefCell;
 mod unchanged;
 pub use unchanged::{Estimator, Kde};
 
-/// What one build was handed, and the estimator that it gave.
+/// The inputs of one build, and the estimator that it gave.
 #[derive(Clone)]
 pub struct Build {
     pub scores: Vec<f64>,
@@ -36,14 +36,14 @@ pub fn forcing<R>(parts: Parts, work: impl FnOnce() -> R) -> R {
     answer
 }
 
-/// Runs `work`, and gives the builds that it made beside its answer.
+/// Runs `work`, and gives its answer and the builds that it made.
 pub fn recording<R>(work: impl FnOnce() -> R) -> (R, Vec<Build>) {
     RECORD.replace(Some(Vec::new()));
     let answer = work();
     (answer, RECORD.replace(None).unwrap_or_default())
 }
 
-/// Runs `work` on rayon's thread. A kernel sum that is called from another thread hands its work over and waits.
+/// Runs `work` on rayon's thread. A kernel sum that is called from another thread passes its work on and waits.
 pub fn on_rayons_thread<R: Send>(work: impl FnOnce() -> R + Send) -> R {
     rayon::scope(|_| work())
 }
@@ -53,17 +53,17 @@ pub fn on_rayons_thread<R: Send>(work: impl FnOnce() -> R + Send) -> R {
 pub struct Builder(unchanged::Builder);
 
 impl Builder {
-    /// Handed on.
+    /// Passed on.
     pub fn monotonic(self, monotonic: bool) -> Self {
         Builder(self.0.monotonic(monotonic))
     }
 
-    /// Handed on.
+    /// Passed on.
     pub fn bw_adjust<F: 'static + Fn(f64) -> f64>(self, bw_adjust: F) -> Self {
         Builder(self.0.bw_adjust(bw_adjust))
     }
 
-    /// Handed on.
+    /// Passed on.
     pub fn bins(self, bins: usize) -> Self {
         Builder(self.0.bins(bins))
     }

@@ -1,1 +1,1 @@
-//! Named by ml/mod.rs; none of the files at hand uses it.
+//! Named by ml/mod.rs; none of the files that are available uses it.

@@ -7,22 +7,23 @@ use Rattle.floats.specs.Ratio.{oneIn}
 use Rattle.counting.specs.Labels.{decoys, targets}
 use Rattle.counting.specs.Lines.{lastRow}
 use Rattle.counting.specs.QValues.{ratioAt, ratios, minimum, runningMinimum, qValues, atMost}
-use Rattle.qvalue.specs.Spectrum.{spectrumAnswer, spectrumColumn}
+use Rattle.qvalue.specs.Spectrum.{spectrumQValue}
 use Rattle.line_check.specs.Check.{lineAnswer}
 use Rattle.gauss.proofs.Known as systems
 use Rattle.kde.proofs.Points as errors
 use Rattle.competition.proofs.Batches as ties
 use Rattle.fdr.proofs.Points as competitions
-use Rattle.competition.specs.Tables.{freshTable, freshAnswer, addedTable, addAnswer, added, allAllowed}
+use Rattle.competition.specs.Tables.{freshTable}
+use Rattle.competition.specs.Batches.{addRows, added, allAllowed}
 use Rattle.agreement.specs.KnownPoints.{twoSlots, KnownPoints}
 
 -- the table that the rows leave
 two-slots-are : twoSlots ≡ competitions.twoTargets
-unfolding freshTable freshAnswer addedTable addAnswer added allAllowed maxNumber lt ofBits
+unfolding freshTable addRows added allAllowed maxNumber lt ofBits
 two-slots-are = refl
 
 pub known-points : KnownPoints
-unfolding spectrumAnswer spectrumColumn lineAnswer lastRow qValues ratios ratioAt runningMinimum minimum atMost tabulated minNumber oneIn decoys targets ofBits ofInt div lt le round
+unfolding spectrumQValue lineAnswer lastRow qValues ratios ratioAt runningMinimum minimum atMost tabulated minNumber oneIn decoys targets ofBits ofInt div lt le round
 known-points = record {
   no-rows = refl;
   no-rows-line = refl;
@@ -39,6 +40,5 @@ known-points = record {
   under = errors.under;
   ppm = errors.ppm-10;
   equal-sides = ties.equal-sides;
-  two-slots-count = rw two-slots-are competitions.two-targets-count;
-  two-slots = λ names. rw two-slots-are (competitions.two-targets-q names nan nan);
+  two-slots = λ names. rw two-slots-are (competitions.two-targets names 9 9 9 9 9 9 9 9 nan nan);
 }

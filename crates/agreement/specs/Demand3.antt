@@ -1,7 +1,22 @@
--- Demand 3, as one statement over the definitions that the calls are proved equal to. "For every list, wherever its decoys stand, and for every line from
--- zero to its length, the line check answers right exactly when the line is right …; the same at 20. Whenever the spectrum q-value call accepts, the rows
--- with a rounded q of at most 0.01 are exactly those up to the one right line, and its count is that line. Whenever the precursor call accepts a list, in
--- whatever order, those at most 0.05 are exactly those up to the right one-in-twenty line of the list as ranked, and its count is the targets up to it."
+-- Demand 3, as one statement over the definitions that the calls are proved equal to. The three demands say, word for
+-- word:
+--
+-- 1. "Every call is sound on its own: it finishes on all inputs; it checks lengths, slots, bins and lines itself; a
+-- refusal has a fixed number; after it, result columns hold only blanks and competition tables are unchanged."
+--
+-- 2. "On lists of up to 16,777,215 rows, within the domain of document 01, the results equal the Rust's, as shown by
+-- running both. They are also proved equal to definitions written from IEEE 754 and from the target-decoy counting
+-- rule. Each place where Rust and document part is written in docs/DIFFERENCES.md."
+--
+-- 3. "Whichever rows of a ranked list of up to 16,777,215 are decoys, and at whatever row from zero to its length
+-- someone draws the one-in-a-hundred line, our added line check answers right exactly when the line is right: no later
+-- row has 100 times (decoys so far plus one) at most the targets so far, and the line is zero or its own row has. Any
+-- other of these lines is answered wrong. Whenever the spectrum q-value call accepts that list, the rows to which it
+-- gives a rounded q-value of at most 0.01 are exactly those up to the one right line, and its count is that line. The
+-- check does the same at one in twenty, with 20 in place of 100. Whenever the precursor q-value call accepts a list, in
+-- whatever order it came, the precursors given a rounded q-value of at most 0.05 are exactly those up to the right
+-- one-in-twenty line of the list as document 01 ranks it by narrowed peak score, and the call's count is the targets up
+-- to that line."
 use mathlib.Core.Path.{_≡_}
 use mathlib.Core.Logic.{_⊎_}
 use mathlib.Core.List.{List}
@@ -16,16 +31,17 @@ use Rattle.columns.specs.declared.Counted.the-variants.{Passing}
 use Rattle.floats.specs.Ratio.{oneIn}
 use Rattle.counting.specs.Labels.{targets}
 use Rattle.counting.specs.Lines.{qualifies, RightLine}
-use Rattle.qvalue.specs.Spectrum.{spectrumAnswer, spectrumColumn}
+use Rattle.qvalue.specs.Spectrum.{spectrumQValue}
 use Rattle.line_check.specs.Check.{perOf, countsAt, lineAnswer}
 use Rattle.line_check.specs.declared.Rate.{Rate}
 use Rattle.line_check.specs.declared.Line.the-variants.{Right, Wrong}
-use Rattle.precursor.specs.Precursors.{rankedRows, asRanked, rankOf, precursorAnswer, precursorColumn}
+use Rattle.ranking.specs.Ranking.{rankedRows, asRanked, rankOf}
+use Rattle.precursor.specs.Precursors.{pickedPrecursor}
 
 -- exactly one line of a list is right
 pub record OneRight (rate : ℕ) (labels : List ℤ) : Type 0 where
   pub line : ℕ
-  pub within : line ≤ length labels
+  pub listed : line ≤ length labels
   pub right : RightLine rate labels line
   pub only : (other : ℕ) → other ≤ length labels → RightLine rate labels other → other ≡ line
 
@@ -34,25 +50,31 @@ pub record LastQualifying (rate : ℕ) (labels : List ℤ) (line row : ℕ) : Ty
   pub none-after : (later : ℕ) → row < later → later ≤ length labels → qualifies rate labels later ≡ false
   pub which : (row ≡ line) ⊎ ((line < row) × (row ≤ length labels) × (qualifies rate labels row ≡ true))
 
+-- the check at a line from zero to the list's length: "right exactly when the line is right"; "Any other … wrong"
+pub record LineCheck (rate : ℕ) (labels : List ℤ) (line : ℕ) : Type 0 where
+  pub if-right : RightLine rate labels line → lineAnswer rate labels line ≡ Right (countsAt labels line)
+  pub if-wrong : (RightLine rate labels line → ⊥)
+      → (row : ℕ) × LastQualifying rate labels line row × (lineAnswer rate labels line ≡ Wrong (countsAt labels row))
+
+-- the spectrum call, where it accepts, and the right line at one in 100; rows count from 1
+pub record Spectra (labels : List ℤ) (q : List Float) (count line : ℕ) : Type 0 where
+  pub count-is-line : count ≡ line
+  pub rows : (i : ℕ) → i < length labels
+      → le (getD (spectrumQValue labels q .q) i nan) (oneIn 100) ≡ leb (suc i) line
+
+-- the precursor call, where it accepts, and the line of the list as ranked that is right at one in 20
+pub record Precursors (labels : List ℤ) (scores : List Float) (q : List Float) (count line : ℕ) : Type 0 where
+  pub count-is-targets : count ≡ targets (take line (asRanked labels scores))
+  pub rows : (place : ℕ) → place < length labels
+      → le (getD q place nan) (oneIn 20) ≡ leb (suc (rankOf (rankedRows scores) place)) line
+
 pub record Demand3 : Type 0 where
   pub one-right : (rate : Rate) (labels : List ℤ) → OneRight (perOf rate) labels
-  -- the check, at a line that is right and at any other
-  pub check-right : (rate : Rate) (labels : List ℤ) (line : ℕ) → length labels ≤ longest → line ≤ length labels
-      → RightLine (perOf rate) labels line → lineAnswer (perOf rate) labels line ≡ Right (countsAt labels line)
-  pub check-wrong : (rate : Rate) (labels : List ℤ) (line : ℕ) → length labels ≤ longest → line ≤ length labels
-      → (RightLine (perOf rate) labels line → ⊥)
-      → (row : ℕ) × LastQualifying (perOf rate) labels line row × (lineAnswer (perOf rate) labels line ≡ Wrong (countsAt labels row))
-  -- the spectrum call, for the line that is right at one in 100; rows count from 1
-  pub spectrum-count : (labels : List ℤ) (q : List Float) (count line : ℕ) → spectrumAnswer labels (length q) ≡ Passing count
-      → line ≤ length labels → RightLine 100 labels line → count ≡ line
-  pub spectrum-rows : (labels : List ℤ) (q : List Float) (count line : ℕ) → spectrumAnswer labels (length q) ≡ Passing count
-      → line ≤ length labels → RightLine 100 labels line
-      → (i : ℕ) → i < length labels → le (getD (spectrumColumn labels q) i nan) (oneIn 100) ≡ leb (suc i) line
-  -- the precursor call, for the line of the list as ranked that is right at one in 20
-  pub precursor-count : (labels : List ℤ) (scores : List Float) (keys spare : ℕ) (q : List Float) (count line : ℕ)
-      → precursorAnswer labels scores keys spare (length q) ≡ Passing count → line ≤ length (asRanked labels scores)
-      → RightLine 20 (asRanked labels scores) line → count ≡ targets (take line (asRanked labels scores))
-  pub precursor-rows : (labels : List ℤ) (scores : List Float) (keys spare : ℕ) (q : List Float) (count line : ℕ)
-      → precursorAnswer labels scores keys spare (length q) ≡ Passing count → line ≤ length (asRanked labels scores)
-      → RightLine 20 (asRanked labels scores) line → (place : ℕ) → place < length labels
-      → le (getD (precursorColumn labels scores keys spare q) place nan) (oneIn 20) ≡ leb (suc (rankOf (rankedRows scores) place)) line
+  pub line-check : (rate : Rate) (labels : List ℤ) (line : ℕ) → length labels ≤ longest → line ≤ length labels
+      → LineCheck (perOf rate) labels line
+  pub spectra : (labels : List ℤ) (q : List Float) (count line : ℕ) → spectrumQValue labels q .answer ≡ Passing count
+      → line ≤ length labels → RightLine 100 labels line → Spectra labels q count line
+  pub precursors : (labels : List ℤ) (scores : List Float) (keys spare : List ℕ) (q : List Float) (count line : ℕ)
+      → let run = pickedPrecursor labels scores keys spare q in
+      run .answer ≡ Passing count → line ≤ length (asRanked labels scores) → RightLine 20 (asRanked labels scores) line
+      → Precursors labels scores (run .q) count line

@@ -1,4 +1,5 @@
--- Document 01's known points, those that it marks, as one table over the definitions that the calls are proved equal to.
+-- Document 01's known points, those that it marks, as one table over the definitions that the calls are proved equal
+-- to.
 use mathlib.Core.Path.{_≡_}
 use mathlib.Core.List.{List, [], _∷_, _++_}
 use mathlib.Core.Bool.{true, false}
@@ -9,22 +10,24 @@ use lib.Dec.{T}
 use lib.Ieee.{Float, nan, fin, neg, eq}
 use Rattle.columns.specs.declared.Counted.the-variants.{Passing}
 use Rattle.columns.specs.declared.Refusal.the-variants.{Unsolved}
-use Rattle.qvalue.specs.Spectrum.{spectrumAnswer, spectrumColumn}
+use Rattle.floats.specs.Constants.{f64Zero}
+use Rattle.qvalue.specs.Spectrum.{spectrumQValue}
 use Rattle.line_check.specs.Check.{lineAnswer}
 use Rattle.line_check.specs.declared.Counts.{Counts}
 use Rattle.line_check.specs.declared.Line.the-variants.{Right, Wrong}
-use Rattle.floats.specs.Constants.{f64Zero}
 use Rattle.gauss.specs.Elimination.{Vector, Matrix, entry, small}
-use Rattle.gauss.specs.Solutions.{solution, answered, blank}
+use Rattle.gauss.specs.Solutions.{solution, solvedWith, blank}
 use Rattle.kde.specs.declared.Tolerance.the-variants.{Ppm}
 use Rattle.kde.specs.declared.BinCount.the-variants.{Bins}
 use Rattle.kde.specs.Bins.{estimator}
 use Rattle.kde.specs.Estimate.{posteriorError}
 use Rattle.kde.specs.Tolerances.{binCountAnswer}
-use Rattle.competition.specs.Tables.{tableOf, freshTable, addedTable, Table}
+use Rattle.competition.specs.Tables.{Table, tableOf, freshTable}
+use Rattle.competition.specs.Batches.{batchOf, addRows}
 use Rattle.competition.specs.Winners.{slotSeen, decoyFlag}
 use Rattle.fdr.specs.declared.Names.{Names}
-use Rattle.fdr.specs.QValues.{assignAnswer, assignColumn}
+use Rattle.fdr.specs.declared.Settings.{Settings}
+use Rattle.fdr.specs.NameQValues.{assignRun, assignQValue}
 
 abbrev pub target : ℤ
 target = pos 1
@@ -36,7 +39,7 @@ decoy = negsuc 0
 abbrev pub whole : ℕ → Float
 whole n = fin false n (pos 0)
 
--- so many targets, then one decoy
+-- n targets, then one decoy
 abbrev pub thenDecoy : ℕ → List ℤ
 thenDecoy n = replicate n target ++ (decoy ∷ [])
 
@@ -47,28 +50,31 @@ counts row decoys targets = record { row = row; «decoys_plus_one» = decoys; ta
 abbrev pub twoBins : List Float
 twoBins = fin false 1 (negsuc 0) ∷ fin false 1 (negsuc 1) ∷ []
 
--- two slots, after a target of each was added, with 2.0 and 1.0; what the columns held before it was made fresh does not matter
+-- two slots, after a target of each was added, with 2.0 and 1.0; what the columns held before it was made fresh does
+-- not matter
 abbrev pub twoSlots : Table
 twoSlots =
     let initial = tableOf (nan ∷ nan ∷ []) (nan ∷ nan ∷ []) (9 ∷ 9 ∷ []) (9 ∷ 9 ∷ []) in
-    addedTable (0 ∷ 1 ∷ []) (target ∷ target ∷ []) (fin false 1 (pos 1) ∷ whole 1 ∷ []) (freshTable initial)
+    let batch = batchOf (0 ∷ 1 ∷ []) (target ∷ target ∷ []) (fin false 1 (pos 1) ∷ whole 1 ∷ []) in
+    addRows batch (freshTable initial .table) .table
 
 pub record KnownPoints : Type 0 where
   -- "no rows: count 0, line 0 right"
-  pub no-rows : spectrumAnswer [] 0 ≡ Passing 0
+  pub no-rows : spectrumQValue [] [] .answer ≡ Passing 0
   pub no-rows-line : lineAnswer 100 [] 0 ≡ Right (counts 0 1 0)
   -- "one decoy: q 1.0"
-  pub one-decoy : spectrumColumn (decoy ∷ []) (nan ∷ []) ≡ whole 1 ∷ []
+  pub one-decoy : spectrumQValue (decoy ∷ []) (nan ∷ []) .q ≡ whole 1 ∷ []
   -- "target, decoy, target: q 1, 1, 1. Labels 0 and 7 are targets."
-  pub three-rows : spectrumColumn (target ∷ decoy ∷ target ∷ []) (replicate 3 nan) ≡ replicate 3 (whole 1)
+  pub three-rows : spectrumQValue (target ∷ decoy ∷ target ∷ []) (replicate 3 nan) .q ≡ replicate 3 (whole 1)
   pub zero-and-seven : lineAnswer 100 (pos 0 ∷ pos 7 ∷ []) 2 ≡ Wrong (counts 2 1 2)
-  -- "20 targets, one decoy at one in 20: line 20, 20 targets"; "19 targets: line 0"; and, not marked, "40 targets, one decoy: line 41, 40 targets"
+  -- "20 targets, one decoy at one in 20: line 20, 20 targets"; "19 targets: line 0"; and, not marked, "40 targets, one
+  -- decoy: line 41, 40 targets"
   pub twenty : lineAnswer 20 (thenDecoy 20) 20 ≡ Right (counts 20 1 20)
   pub nineteen : lineAnswer 20 (thenDecoy 19) 0 ≡ Right (counts 0 1 0)
   pub forty : lineAnswer 20 (thenDecoy 40) 41 ≡ Right (counts 41 2 40)
   -- "system [−1E-8], right side 5: answer 5", whatever stands past the size
   pub minus-small : (left : Matrix) (right : Vector) → entry left 0 0 ≡ neg small → getD right 0 nan ≡ whole 5
-      → solution left right 1 ≡ answered (whole 5 ∷ replicate 19 f64Zero)
+      → solution left right 1 ≡ solvedWith (whole 5 ∷ replicate 19 f64Zero)
   -- "system [NaN]: 7"
   pub not-a-number : (left : Matrix) (right : Vector) → entry left 0 0 ≡ nan → solution left right 1 ≡ blank Unsolved
   -- "bins 0.5, 0.25, least 0, step 1: score 0.5 gives 0.375; 2 gives 0.25; −3 gives 1.25"
@@ -78,10 +84,11 @@ pub record KnownPoints : Type 0 where
   -- "ppm −10 to 10: 100 bins"
   pub ppm : binCountAnswer (Ppm (fin true 5 (pos 1)) (fin false 5 (pos 1))) ≡ Bins 100
   -- "equal forward and reverse: decoy wins", in every table, for a slot that is seen
-  pub equal-sides : (t : Table) (slot : ℕ) → slotSeen t slot ≡ true → T (eq (getD (t .forward) slot nan) (getD (t .reverse) slot nan))
-      → decoyFlag t slot ≡ 1
+  pub equal-sides : (t : Table) (slot : ℕ) → slotSeen t slot ≡ true
+      → T (eq (getD (t .forward) slot nan) (getD (t .reverse) slot nan)) → decoyFlag t slot ≡ 1
   -- "two target slots scored 2.0 and 1.0, bins 0.5, 0.25, least 1, step 1: q 0.875 for both, count 0"
-  pub two-slots-count : assignAnswer (estimator (whole 1) (whole 1)) twoBins twoSlots (0 ∷ 1 ∷ []) 2 4 4 2 ≡ Passing 0
   pub two-slots : (names : Names)
-      → assignColumn names (estimator (whole 1) (whole 1)) twoBins twoSlots (0 ∷ 1 ∷ []) (target ∷ target ∷ []) 4 4 (nan ∷ nan ∷ [])
-      ≡ replicate 2 (fin false 7 (negsuc 2))
+      → let settings : Settings = record { names = names; estimator = estimator (whole 1) (whole 1) } in
+      let labels = target ∷ target ∷ [] in
+      assignQValue settings twoBins twoSlots (0 ∷ 1 ∷ []) labels (replicate 4 9) (replicate 4 9) (nan ∷ nan ∷ [])
+      ≡ assignRun (Passing 0) (replicate 4 0) (replicate 4 0) (replicate 2 (fin false 7 (negsuc 2)))

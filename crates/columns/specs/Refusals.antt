@@ -1,7 +1,9 @@
 -- The numbers of refusals. Document 01, "Questions asked of each call, in this order"; "A refusal returns its number".
 use Prim.Native.Nat.{ℕ}
+use mathlib.Core.Bool.{Bool, cond}
 use Rattle.columns.specs.declared.Refusal.{Refusal}
-use Rattle.columns.specs.declared.Refusal.the-variants.{TooLong, WrongLength, OutOfRange, NoTolerance, NoSuchSlot, OneClass, Unsolved, NotFinite, PastTheEnd}
+use Rattle.columns.specs.declared.Refusal.the-variants.{TooLong, WrongLength, OutOfRange, NoTolerance}
+use Rattle.columns.specs.declared.Refusal.the-variants.{NoSuchSlot, OneClass, Unsolved, NotFinite, PastTheEnd}
 use Rattle.columns.specs.declared.Outcome.{Outcome}
 use Rattle.columns.specs.declared.Outcome.the-variants as outcome
 use Rattle.columns.specs.declared.Counted.{Counted}
@@ -45,7 +47,17 @@ countedCount (Refused r) = 0
 abbrev pub longest : ℕ
 longest = 16777215
 
--- what a call leaves in a column: the first where it accepts, and the second where it refuses
-abbrev pub ifAccepted : {A : Type 0} → Outcome → A → A → A
-ifAccepted outcome.Accepted a b = a
-ifAccepted (outcome.Refused r) a b = b
+-- "Questions asked of each call, in this order … If not: 1.": a refusal where a question is not met, else what the rest
+-- give
+abbrev pub ifNot : Bool → Refusal → Outcome → Outcome
+ifNot met refusal rest = cond met rest (outcome.Refused refusal)
+
+-- what a call answers and leaves: what it works out where every question is met, and otherwise what a refusal leaves
+abbrev pub answered : {A : Type 0} → Outcome → A → (Refusal → A) → A
+answered outcome.Accepted accepted refused = accepted
+answered (outcome.Refused r) accepted refused = refused r
+
+-- what a call returns and what it leaves, as one value
+infixr 40 _and_
+abbrev pub _and_ : {A B : Type 0} → A → B → A × B
+a and b = (a, b)

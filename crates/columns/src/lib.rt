@@ -1,4 +1,4 @@
-// What every call asks of its lent columns, and what a refusal leaves in them (document 01, "Questions asked of each call").
+// What every call asks of its columns, and what a refusal leaves in them (document 01, "Questions asked of each call").
 ghost use mathlib.Core.Path.{_≡_};
 ghost use lib.Ieee.{nan};
 ghost use Rattle.folds.specs.Lists.{filled};
@@ -34,7 +34,7 @@ pub fn number(refusal: Refusal) -> u32
     }
 }
 
-// The answer of a call that fills lent columns.
+// The answer of a call that fills columns.
 pub enum Outcome {
     Accepted,
     Refused(Refusal),

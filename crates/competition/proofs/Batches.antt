@@ -1,9 +1,9 @@
--- What holds of competition tables whatever the rows: batches join, rows that take no part and NaN scores change no score, columns keep their lengths
--- and marks, a fresh table has nothing seen, and ties go to the decoy.
+-- What holds of competition tables whatever the rows: batches join, rows that take no part and NaN scores change no
+-- score, columns keep their lengths and marks, a fresh table has nothing seen, and ties go to the decoy.
 use mathlib.Core.Path.{_≡_, refl, sym, ap, subst, _∙_}
 use mathlib.Core.List.{List, [], _∷_, _++_}
 use mathlib.Core.Bool.{Bool, true, false, not, cond}
-use Prim.Native.Nat.{ℕ, suc, _≤_}
+use Prim.Native.Nat.{ℕ, _≤_}
 use native.Mathlib.Omega.{arith}
 use borrow.Author.Tests.{ne-eqb}
 use lib.Dec.{T}
@@ -14,16 +14,19 @@ use lib.Ieee.{Float, nan, inf, fin, isNan, lt, eq, le, ofBits}
 use Rattle.folds.proofs.Writing.{getD-constant}
 use Rattle.folds.proofs.Tests.{both}
 use Rattle.folds.specs.Lists.{filled}
+use Rattle.floats.specs.Constants.{f32Min}
 use Rattle.floats.specs.MinMax.{maxNumber}
 use Rattle.floats.proofs.Order.{max-nan, eq→le, le-refl}
 use Rattle.columns.specs.Refusals.{longest}
 use Rattle.columns.specs.declared.Outcome.the-variants.{Accepted}
 use Rattle.counting.specs.Labels.{isDecoy}
-use Rattle.floats.specs.Constants.{f32Min}
-use Rattle.competition.specs.Tables.{Table, tableOf, noPart, freshAnswer, freshTable, allAllowed, withRow, added, addAnswer, addedTable}
-use Rattle.competition.specs.Winners.{slotSeen, decoyFlag, winnerScores, winnerDecoys}
-use Rattle.competition.proofs.Rows.{SameLengths}
-use Rattle.competition.proofs.Accepting.{accepting, accepted-part, table-of-accepted, all-allowed-joined, batch-lengths, same-lengths-or, answer-by-lengths, KeepsSeen, batch-keeps, keeps-or, unseen-scores, unseen-decoys}
+use Rattle.competition.specs.Tables.{Table, tableOf, tableRun, freshAsked, freshTable}
+use Rattle.competition.specs.Batches.{Batch, joined, noPart, allAllowed, withRow, added, batchAsked, addRows}
+use Rattle.competition.specs.Winners.{slotSeen, decoyFlag, winnersRun, winnersAsked, winners}
+use Rattle.competition.specs.Inner.Ready.{BatchReady}
+use Rattle.competition.proofs.Questions.{batch-ready, batch-accepted}
+use Rattle.competition.proofs.Rows.{SameLengths, same-lengths-refl}
+use Rattle.competition.proofs.Calls.{run-of-accepted, all-allowed-joined, after-call, batch-lengths, asked-by-lengths, KeepsSeen, keeps-refl, batch-keeps, unseen-winners}
 
 -- ---- batch after batch
 
@@ -32,72 +35,65 @@ pub joined-rows : (a c : List ℕ) (b d : List ℤ) (x y : List Float) → lengt
     → added (a ++ c) (b ++ d) (x ++ y) t ≡ added c d y (added a b x t)
 unfolding added
 joined-rows [] c [] d [] y p q t = refl
-joined-rows [] c [] d (s ∷ x) y p q t = absurd (no q)
-  where
-    no : suc (length x) ≡ 0 → ⊥
-    no e = omega arith
-joined-rows [] c (l ∷ b) d x y p q t = absurd (no p)
-  where
-    no : suc (length b) ≡ 0 → ⊥
-    no e = omega arith
-joined-rows (k ∷ a) c [] d x y p q t = absurd (no p)
-  where
-    no : 0 ≡ suc (length a) → ⊥
-    no e = omega arith
-joined-rows (k ∷ a) c (l ∷ b) d [] y p q t = absurd (no q)
-  where
-    no : 0 ≡ suc (length a) → ⊥
-    no e = omega arith
-joined-rows (k ∷ a) c (l ∷ b) d (s ∷ x) y p q t =
-    joined-rows a c b d x y (one-less p) (one-less q) (withRow k l s t)
-  where
-    one-less : {m n : ℕ} → suc m ≡ suc n → m ≡ n
-    one-less e = omega arith
+joined-rows [] c [] d (s ∷ x) y p q t = absurd (omega arith)
+joined-rows [] c (l ∷ b) d x y p q t = absurd (omega arith)
+joined-rows (k ∷ a) c [] d x y p q t = absurd (omega arith)
+joined-rows (k ∷ a) c (l ∷ b) d [] y p q t = absurd (omega arith)
+joined-rows (k ∷ a) c (l ∷ b) d (s ∷ x) y p q t = joined-rows a c b d x y (omega arith) (omega arith) (withRow k l s t)
 
 -- a call leaves each column its length
-pub call-keeps-lengths : (slots : List ℕ) (labels : List ℤ) (scores : List Float) (t : Table) → SameLengths (addedTable slots labels scores t) t
-unfolding addedTable
-call-keeps-lengths slots labels scores t = same-lengths-or (addAnswer slots labels scores t) (batch-lengths slots labels scores t)
+pub call-keeps-lengths : (b : Batch) (t : Table) → SameLengths (addRows b t .table) t
+call-keeps-lengths b t = after-call (λ u. SameLengths u t) b t same-lengths-refl (batch-lengths (b .slots) (b .labels) (b .scores) t)
 
 -- so no earlier call changes a later one's answer
-pub later-answer : (a : List ℕ) (b : List ℤ) (x : List Float) (c : List ℕ) (d : List ℤ) (y : List Float) (t : Table)
-    → addAnswer c d y (addedTable a b x t) ≡ addAnswer c d y t
-later-answer a b x c d y t = answer-by-lengths c d y (call-keeps-lengths a b x t)
+pub later-answer : (a b : Batch) (t : Table) → batchAsked b (addRows a t .table) ≡ batchAsked b t
+later-answer a b t = asked-by-lengths b (call-keeps-lengths a t)
+
+-- another batch is accepted by a table that accepted one, where its own columns are right
+another : (a b : Batch) (t : Table) → BatchReady a t → length (b .slots) ≤ longest → length (b .labels) ≡ length (b .slots)
+    → length (b .scores) ≡ length (b .slots) → allAllowed (length (t .forward)) (b .slots) ≡ true → batchAsked b t ≡ Accepted
+another a b t w h l s k = batch-accepted b t (record {
+  short = h;
+  table-short = w .table-short;
+  labels-length = l;
+  scores-length = s;
+  lengths = w .lengths;
+  slots-allowed = k;
+})
 
 -- two accepted calls are one, if the joined columns are not too long
-pub joined-calls : (a c : List ℕ) (b d : List ℤ) (x y : List Float) (t : Table)
-    → addAnswer a b x t ≡ Accepted → addAnswer c d y (addedTable a b x t) ≡ Accepted → length (a ++ c) ≤ longest
-    → (addAnswer (a ++ c) (b ++ d) (x ++ y) t ≡ Accepted) × (addedTable (a ++ c) (b ++ d) (x ++ y) t ≡ addedTable c d y (addedTable a b x t))
-joined-calls a c b d x y t p q h =
-    let f = accepting p in
-    let g = accepting (sym (later-answer a b x c d y t) ∙ q) in
-    let r = f .ready in
-    let u = g .ready in
-    let e : addAnswer (a ++ c) (b ++ d) (x ++ y) t ≡ Accepted =
-    accepted-part f (a ++ c) (b ++ d) (x ++ y) h (omega (arith, length-append b d, length-append a c, r .labels-fit, u .labels-fit))
-    (omega (arith, length-append x y, length-append a c, r .scores-fit, u .scores-fit))
-    (rw (all-allowed-joined (length (t .forward)) a c, r .slots-allowed, u .slots-allowed)) in (
+pub joined-calls : (a b : Batch) (t : Table) → batchAsked a t ≡ Accepted → batchAsked b (addRows a t .table) ≡ Accepted
+    → length (joined a b .slots) ≤ longest
+    → (batchAsked (joined a b) t ≡ Accepted) × (addRows (joined a b) t ≡ addRows b (addRows a t .table))
+joined-calls a b t p q h =
+    let f = batch-ready a t p in
+    let g = batch-ready b t (sym (later-answer a b t) ∙ q) in
+    let e : batchAsked (joined a b) t ≡ Accepted =
+    another a (joined a b) t f h
+    (omega (arith, length-append (a .labels) (b .labels), length-append (a .slots) (b .slots), f .labels-length, g .labels-length))
+    (omega (arith, length-append (a .scores) (b .scores), length-append (a .slots) (b .slots), f .scores-length, g .scores-length))
+    (rw (all-allowed-joined (length (t .forward)) (a .slots) (b .slots), f .slots-allowed, g .slots-allowed)) in (
       e,
-      table-of-accepted (a ++ c) (b ++ d) (x ++ y) t e
-          ∙ joined-rows a c b d x y (r .labels-fit) (r .scores-fit) t
-          ∙ ap (added c d y) (sym (table-of-accepted a b x t p))
-          ∙ sym (table-of-accepted c d y (addedTable a b x t) q),
+      run-of-accepted (joined a b) t e
+          ∙ ap (tableRun Accepted)
+          (joined-rows (a .slots) (b .slots) (a .labels) (b .labels) (a .scores) (b .scores) (f .labels-length) (f .scores-length) t
+          ∙ ap (added (b .slots) (b .labels) (b .scores)) (sym (ap (λ r. r .table) (run-of-accepted a t p))))
+          ∙ sym (run-of-accepted b (addRows a t .table) q),
     )
 
 -- and an accepted call is two
-pub split-call : (a c : List ℕ) (b d : List ℤ) (x y : List Float) (t : Table) → length b ≡ length a → length x ≡ length a
-    → addAnswer (a ++ c) (b ++ d) (x ++ y) t ≡ Accepted
-    → (addAnswer a b x t ≡ Accepted) × (addAnswer c d y (addedTable a b x t) ≡ Accepted)
-split-call a c b d x y t p q e =
-    let f = accepting e in
-    let r = f .ready in
-    let h = f .short in
+pub split-call : (a b : Batch) (t : Table) → length (a .labels) ≡ length (a .slots) → length (a .scores) ≡ length (a .slots)
+    → batchAsked (joined a b) t ≡ Accepted → (batchAsked a t ≡ Accepted) × (batchAsked b (addRows a t .table) ≡ Accepted)
+split-call a b t p q e =
+    let w = batch-ready (joined a b) t e in
+    let h = w .short in
     let n = length (t .forward) in
-    let s = both (allAllowed n a) (allAllowed n c) (sym (all-allowed-joined n a c) ∙ r .slots-allowed) in (
-      accepted-part f a b x (omega (arith, length-append a c)) p q (s .0),
-      later-answer a b x c d y t
-          ∙ accepted-part f c d y (omega (arith, length-append a c)) (omega (arith, length-append a c, length-append b d, r .labels-fit))
-          (omega (arith, length-append a c, length-append x y, r .scores-fit))
+    let s = both (allAllowed n (a .slots)) (allAllowed n (b .slots)) (sym (all-allowed-joined n (a .slots) (b .slots)) ∙ w .slots-allowed) in
+    let slots = length-append (a .slots) (b .slots) in (
+      another (joined a b) a t w (omega (arith, slots)) p q (s .0),
+      later-answer a b t
+          ∙ another (joined a b) b t w (omega (arith, slots)) (omega (arith, slots, length-append (a .labels) (b .labels), w .labels-length))
+          (omega (arith, slots, length-append (a .scores) (b .scores), w .scores-length))
           (s .1),
     )
 
@@ -139,24 +135,22 @@ minus-infinity-leaves-f32-min = refl
 -- ---- marks
 
 -- a side once seen stays seen
-pub call-keeps-seen : (slots : List ℕ) (labels : List ℤ) (scores : List Float) (t : Table) → KeepsSeen t (addedTable slots labels scores t)
-unfolding addedTable
-call-keeps-seen slots labels scores t = keeps-or (addAnswer slots labels scores t) (batch-keeps slots labels scores t)
+pub call-keeps-seen : (b : Batch) (t : Table) → KeepsSeen t (addRows b t .table)
+call-keeps-seen b t = after-call (KeepsSeen t) b t keeps-refl (batch-keeps (b .slots) (b .labels) (b .scores) t)
 
 -- ---- a fresh table
 
-module _ (t : Table) (e : freshAnswer t ≡ Accepted) where
+module _ (t : Table) (e : freshAsked t ≡ Accepted) where
   -- no slot is seen
-  pub fresh-unseen : (slot : ℕ) → slotSeen (freshTable t) slot ≡ false
+  pub fresh-unseen : (slot : ℕ) → slotSeen (freshTable t .table) slot ≡ false
   unfolding freshTable
   fresh-unseen slot = rw (e, getD-constant {A = ℕ} (length (t .forwardSeen)) slot 0, getD-constant {A = ℕ} (length (t .reverseSeen)) slot 0)
 
   -- and its winners are all blanks
-  pub fresh-scores : (scores : List Float) (decoys : List ℕ) → winnerScores (freshTable t) scores decoys ≡ filled nan scores
-  fresh-scores = unseen-scores (freshTable t) fresh-unseen
-
-  pub fresh-decoys : (scores : List Float) (decoys : List ℕ) → winnerDecoys (freshTable t) scores decoys ≡ filled 4294967295 decoys
-  fresh-decoys = unseen-decoys (freshTable t) fresh-unseen
+  pub fresh-winners : (scores : List Float) (flags : List ℕ)
+      → winners (freshTable t .table) scores flags
+      ≡ winnersRun (winnersAsked (freshTable t .table) (length scores) (length flags)) (filled nan scores) (filled 4294967295 flags)
+  fresh-winners = unseen-winners (freshTable t .table) fresh-unseen
 
 -- ---- ties
 

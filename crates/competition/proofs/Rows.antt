@@ -1,12 +1,12 @@
 -- One row's step on a table, and the rows of a batch one after the other.
 use mathlib.Core.Path.{_≡_, refl, sym, ap, _∙_}
 use mathlib.Core.List.{List}
-use mathlib.Core.Bool.{Bool, true, false, cond, _||_}
+use mathlib.Core.Bool.{Bool, true, false, cond}
 use Prim.Native.Nat.{ℕ, suc, _+_, _≤_, _<_, _^_, zero-le}
 use native.Mathlib.Numerals.{add-one}
 use native.Mathlib.Omega.{arith}
-use borrow.Author.Tests.{ltb-true, eqb-true, eq-eqb, ne-eqb}
-use lib.Dec.{ltb, eqb}
+use borrow.Author.Tests.{eq-eqb, ne-eqb}
+use lib.Dec.{eqb}
 use lib.IntN.{ℤ, pos}
 use lib.Signed.{mag}
 use lib.ListN.{length, drop, getD, set, length-set, drop-of-length-le}
@@ -20,7 +20,10 @@ use Rattle.floats.specs.MinMax.{maxNumber}
 use Rattle.counting.specs.Labels.{isDecoy}
 use Rattle.counting.proofs.Tally.{label-test}
 use Rattle.competition.specs.declared.Competition.{Competition}
-use Rattle.competition.specs.Tables.{Table, tableOf, noPart, raiseForward, raiseReverse, withRow, added, allowed, allAllowed, RowReady, AddReady}
+use Rattle.competition.specs.Tables.{Table, tableOf}
+use Rattle.competition.specs.Batches.{Batch, noPart, raiseForward, raiseReverse, withRow, added, allowed, allAllowed}
+use Rattle.competition.specs.Inner.Ready.{RowReady, BatchReady}
+use Rattle.competition.proofs.Questions.{slot-in-bounds}
 
 -- ---- the three ways through `add_row`
 
@@ -76,67 +79,65 @@ row-lengths slot label score t = go (eqb slot noPart) (isDecoy label)
       reverseSeen = refl;
     }
 
--- ---- the loop over a batch: the rows to come make of the table at hand what all rows make of the table that came in
+-- ---- the loop over a batch: the rows to come make of the present table what all rows make of the first one
 
-pub record Adding (slots : List ℕ) (labels : List ℤ) (scores : List Float) (t₀ t : Table) (i : ℕ) : Type 0 where
-  pub high : i ≤ length slots
+pub record Adding (b : Batch) (t₀ t : Table) (i : ℕ) : Type 0 where
+  pub high : i ≤ length (b .slots)
   pub same : SameLengths t t₀
-  pub left : allAllowed (length (t₀ .forward)) (drop i slots) ≡ true
-  pub is : added (drop i slots) (drop i labels) (drop i scores) t ≡ added slots labels scores t₀
+  pub left : allAllowed (length (t₀ .forward)) (drop i (b .slots)) ≡ true
+  pub is : added (drop i (b .slots)) (drop i (b .labels)) (drop i (b .scores)) t ≡ added (b .slots) (b .labels) (b .scores) t₀
 
-pub allowed-within : (count slot : ℕ) → allowed count slot ≡ true → (slot ≡ noPart → ⊥) → slot < count
-allowed-within count slot e n = go (ltb slot count) refl
-  where
-    go : (b : Bool) → ltb slot count ≡ b → slot < count
-    go true l = ltb-true slot count l
-    go false l = absurd (n (eqb-true slot noPart (ap (λ (b : Bool). b || eqb slot noPart) (sym l) ∙ e)))
+module _ {b : Batch} {t₀ : Table} (ready : BatchReady b t₀) where
+  pub adding-start : Adding b t₀ t₀ 0
+  adding-start = record { high = zero-le; same = same-lengths-refl; left = ready .slots-allowed; is = refl }
 
-module _ {slots : List ℕ} {labels : List ℤ} {scores : List Float} {t₀ : Table} (ready : AddReady slots labels scores t₀) where
-  pub adding-start : Adding slots labels scores t₀ t₀ 0
-  adding-start = record {
-    high = zero-le;
-    same = same-lengths-refl;
-    left = ready .slots-allowed;
-    is = refl;
-  }
-
-  module _ {t : Table} {i : ℕ} (w : Adding slots labels scores t₀ t i) where
-    pub adding-done : length slots ≤ i → t ≡ added slots labels scores t₀
+  module _ {t : Table} {i : ℕ} (w : Adding b t₀ t i) where
+    pub adding-done : length (b .slots) ≤ i → t ≡ added (b .slots) (b .labels) (b .scores) t₀
     unfolding added
-    adding-done h = ap (λ (l : List ℕ). added l (drop i labels) (drop i scores) t) (sym (drop-of-length-le slots h)) ∙ w .is
+    adding-done h =
+        ap (λ (l : List ℕ). added l (drop i (b .labels)) (drop i (b .scores)) t) (sym (drop-of-length-le (b .slots) h)) ∙ w .is
 
-    module _ (h : i < length slots) where
-      next : (allowed (length (t₀ .forward)) (getD slots i 0) ≡ true) × (allAllowed (length (t₀ .forward)) (drop (suc i) slots) ≡ true)
+    module _ (h : i < length (b .slots)) where
+      next : (allowed (length (t₀ .forward)) (getD (b .slots) i 0) ≡ true)
+          × (allAllowed (length (t₀ .forward)) (drop (suc i) (b .slots)) ≡ true)
       unfolding allAllowed
       next =
-          both (allowed (length (t₀ .forward)) (getD slots i 0)) (allAllowed (length (t₀ .forward)) (drop (suc i) slots))
-          (ap (allAllowed (length (t₀ .forward))) (sym (drop-cons slots i 0 h)) ∙ w .left)
+          both (allowed (length (t₀ .forward)) (getD (b .slots) i 0)) (allAllowed (length (t₀ .forward)) (drop (suc i) (b .slots)))
+          (ap (allAllowed (length (t₀ .forward))) (sym (drop-cons (b .slots) i 0 h)) ∙ w .left)
 
       -- what `add_row` asks
-      pub adding-row : RowReady (getD slots i 0) t
+      pub adding-row : RowReady (getD (b .slots) i 0) t
       adding-row =
           let s = w .same in
+          let l = ready .lengths in
           record {
-            within = λ n. omega (arith, allowed-within (length (t₀ .forward)) (getD slots i 0) (next .0) n, s .forward);
-            reverse-fit = s .reverse ∙ ready .reverse-fit ∙ sym (s .forward);
-            forward-marks = s .forwardSeen ∙ ready .forward-marks ∙ sym (s .forward);
-            reverse-marks = s .reverseSeen ∙ ready .reverse-marks ∙ sym (s .forward);
+            in-table = λ n. omega (arith, slot-in-bounds (length (t₀ .forward)) (getD (b .slots) i 0) (next .0) n, s .forward);
+            lengths = record {
+              reverse-length = s .reverse ∙ l .reverse-length ∙ sym (s .forward);
+              forward-seen-length = s .forwardSeen ∙ l .forward-seen-length ∙ sym (s .forward);
+              reverse-seen-length = s .reverseSeen ∙ l .reverse-seen-length ∙ sym (s .forward);
+            };
           }
 
       -- a label comes from its 32 bits
-      pub adding-step : mag (getD labels i (pos 0)) < 2 ^ 31 → {forward reverse : List Float} {forwardSeen reverseSeen : List ℕ}
-          → tableOf forward reverse forwardSeen reverseSeen ≡ withRow (getD slots i 0) (toZ w32 (ofZ w32 (getD labels i (pos 0)))) (getD scores i nan) t
-          → Adding slots labels scores t₀ (tableOf forward reverse forwardSeen reverseSeen) (i + 1)
+      pub adding-step : mag (getD (b .labels) i (pos 0)) < 2 ^ 31 → {forward reverse : List Float} {forwardSeen reverseSeen : List ℕ}
+          → tableOf forward reverse forwardSeen reverseSeen
+          ≡ withRow (getD (b .slots) i 0) (toZ w32 (ofZ w32 (getD (b .labels) i (pos 0)))) (getD (b .scores) i nan) t
+          → Adding b t₀ (tableOf forward reverse forwardSeen reverseSeen) (i + 1)
       unfolding added
       adding-step fits e =
-          let s = getD slots i 0 in
-          let l = getD labels i (pos 0) in
-          let x = getD scores i nan in
+          let s = getD (b .slots) i 0 in
+          let l = getD (b .labels) i (pos 0) in
+          let x = getD (b .scores) i nan in
           rw (e, toZ-ofZ w32 l (record { sfits = fits }), add-one i)
           (record {
             high = h;
             same = same-lengths-trans (row-lengths s l x t) (w .same);
             left = next .1;
-            is = rw (drop-cons slots i 0 h, drop-cons labels i (pos 0) (omega (arith, ready .labels-fit)), drop-cons scores i nan (omega (arith, ready .scores-fit)))
+            is = rw (
+              drop-cons (b .slots) i 0 h,
+              drop-cons (b .labels) i (pos 0) (omega (arith, ready .labels-length)),
+              drop-cons (b .scores) i nan (omega (arith, ready .scores-length)),
+            )
                 at (w .is);
           })

@@ -7,7 +7,7 @@ use native.Mathlib.Numerals.{add-one}
 use native.Mathlib.Omega.{arith}
 use lib.ListN.{length, drop, getD}
 use lib.Seq.{drop-cons, drop-length}
-use Rattle.competition.specs.Tables.{allowed, allAllowed}
+use Rattle.competition.specs.Batches.{allowed, allAllowed}
 
 -- `all` is the answer for the first i slots: joined with the answer for the rest it is the whole list's
 pub record Asking (count : ℕ) (slots : List ℕ) (all : Bool) (i : ℕ) : Type 0 where

@@ -1,2 +1,4 @@
 pub mod Tables
+pub mod Batches
 pub mod Winners
+pub mod Inner

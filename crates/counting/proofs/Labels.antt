@@ -1,17 +1,16 @@
--- Decoys and targets up to a row. Each row adds one to the one or the other, by its label, so together they are the row's number.
+-- Decoys and targets up to a row. Each row adds one to the one or the other, by its label, so together they are the
+-- row's number.
 use mathlib.Core.Path.{_≡_, refl, ap, _∙_}
-use mathlib.Core.Logic.{_⊎_, inl, inr}
 use mathlib.Core.List.{List, [], _∷_, map}
-use mathlib.Core.Bool.{Bool, true, false, cond, _&&_}
-use Prim.Native.Nat.{ℕ, zero, suc, _+_, _-_, _%_, _<_, min}
-use native.Mathlib.Nat.{not-suc-le-zero, le-of-suc-le-suc, add-zero, eq-zero-or-pos}
+use mathlib.Core.Bool.{Bool, true, false, not, cond}
+use Prim.Native.Nat.{ℕ, zero, suc, _+_, _-_, _<_, min}
+use native.Mathlib.Nat.{not-suc-le-zero, le-of-suc-le-suc}
 use native.Mathlib.Numerals.{add-one}
 use native.Mathlib.Omega.{arith}
-use lib.Dec.{eqb}
-use lib.IntN.{ℤ}
+use lib.IntN.{ℤ, pos, negsuc}
 use lib.ListN.{length, take, getD, length-take}
-use mir.Val.{boolByte}
-use Rattle.counting.specs.Labels.{isDecoy, decoys, targets, bitLabel}
+use lib.Seq.{getD-set-other}
+use Rattle.counting.specs.Labels.{isDecoy, decoys, targets, flip, flipRow}
 
 decoys-suc : (labels : List ℤ) (i : ℕ) (d : ℤ) → i < length labels
     → decoys (take (suc i) labels) ≡ decoys (take i labels) + cond (isDecoy (getD labels i d)) 1 0
@@ -77,18 +76,25 @@ pub same-targets : (ls ls′ : List ℤ) → map isDecoy ls ≡ map isDecoy ls�
 same-targets ls ls′ e row =
     omega (arith, row-counts row ls, row-counts row ls′, same-decoys ls ls′ e row, same-length ls ls′ e)
 
--- ---- labels that are last bits
+-- ---- a flipped label
 
-even-or-odd : (n : ℕ) → (n % 2 ≡ 0) ⊎ (n % 2 ≡ 1)
-even-or-odd n = elim (eq-zero-or-pos (n % 2)) [ inl e ↦ inl e | inr p ↦ inr (omega arith) ]
+-- a decoy becomes a target, and a target a decoy
+pub flip-turns : (label : ℤ) → isDecoy (flip label) ≡ not (isDecoy label)
+flip-turns label = go (isDecoy label)
+  where
+    go : (b : Bool) → isDecoy (cond b (pos 1) (negsuc 0)) ≡ not b
+    go true = refl
+    go false = refl
 
-pub bit-decoy : (key : ℕ) → cond (isDecoy (bitLabel key)) 1 0 ≡ key % 2
-bit-decoy key = elim (even-or-odd key) [ inl e ↦ rw e | inr e ↦ rw e ]
+-- flipped twice, a label is of the class that it was
+pub flip-twice : (label : ℤ) → isDecoy (flip (flip label)) ≡ isDecoy label
+flip-twice label = flip-turns (flip label) ∙ ap not (flip-turns label) ∙ not-not (isDecoy label)
+  where
+    not-not : (b : Bool) → not (not b) ≡ b
+    not-not true = refl
+    not-not false = refl
 
-pub bit-target : (key : ℕ) → cond (isDecoy (bitLabel key)) 0 1 ≡ 1 - key % 2
-bit-target key = elim (even-or-odd key) [ inl e ↦ rw e | inr e ↦ rw e ]
-
--- a target that meets a test counts
-pub pass-one : (key rest : ℕ) (b : Bool) → rest + boolByte (b && eqb (key % 2) 0) ≡ cond (isDecoy (bitLabel key)) rest (cond b (suc rest) rest)
-pass-one key rest true = elim (even-or-odd key) [ inl e ↦ rw e (add-one rest) | inr e ↦ rw e (add-zero rest) ]
-pass-one key rest false = elim (even-or-odd key) [ inl e ↦ rw e (add-zero rest) | inr e ↦ rw e (add-zero rest) ]
+-- the other rows stand as they were
+pub flip-row-others : (row : ℕ) (labels : List ℤ) (i : ℕ) (d : ℤ) → (i ≡ row - 1 → ⊥) → getD (flipRow row labels) i d ≡ getD labels i d
+unfolding flipRow
+flip-row-others row labels i d p = getD-set-other labels (row - 1) i (flip (getD labels (row - 1) (pos 0))) d p

@@ -1,5 +1,5 @@
--- The right line. The last row that qualifies is right, and no other line is: a line before it has a later row that qualifies, and a line
--- after it is neither 0 nor a row that qualifies.
+-- The right line. The last row that qualifies is right, and no other line is: a line before it has a later row that
+-- qualifies, and a line after it is neither 0 nor a row that qualifies.
 use mathlib.Core.Path.{_≡_, refl, sym, _∙_}
 use mathlib.Core.Logic.{_⊎_, inl, inr}
 use mathlib.Core.List.{List, map}

@@ -1,5 +1,5 @@
--- The two passes over a column of q-values. Forwards each place gets its row's ratio; backwards each place gets the least of 1.0 and what
--- stood there and after it, and those at most c are counted.
+-- The two passes over a column of q-values. Forwards each place gets its row's ratio; backwards each place gets the
+-- least of 1.0 and what stood there and after it, and those at most c are counted.
 use mathlib.Core.Path.{_≡_, refl, sym, subst, _∙_}
 use mathlib.Core.List.{List, [], _∷_}
 use mathlib.Core.Bool.{Bool, true, false, not, cond}

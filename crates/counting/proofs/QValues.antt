@@ -1,5 +1,5 @@
--- Q-values and lines. A row's own ratio is at most one in k exactly where the row qualifies; the running minimum carries that to
--- "this row or a later one qualifies", which is "this row is not past the right line".
+-- Q-values and lines. A row's own ratio is at most one in k exactly where the row qualifies; the running minimum
+-- carries that to "this row or a later one qualifies", which is "this row is not past the right line".
 use mathlib.Core.Path.{_≡_, sym, ap, fun-ext, _∙_}
 use mathlib.Core.Logic.{inl, inr}
 use mathlib.Core.List.{List, map}

@@ -1,5 +1,5 @@
--- The least of 1.0 and a list of floats, and the column of them: never a NaN, at most 1.0, at most a number below 1.0 exactly where
--- one of the list is, and never falling down the column.
+-- The least of 1.0 and a list of floats, and the column of them: never a NaN, at most 1.0, at most a number below 1.0
+-- exactly where one of the list is, and never falling down the column.
 use mathlib.Core.Path.{_≡_, refl, sym, ap, _∙_}
 use mathlib.Core.Logic.{inl, inr}
 use mathlib.Core.List.{List, [], _∷_}
@@ -18,7 +18,7 @@ use Rattle.counting.specs.QValues.{minimum, runningMinimum, atMost}
 
 -- ---- the least
 
--- one comparison finds the lesser, where the first is no NaN
+-- one comparison finds the smaller, where the first is no NaN
 pub min-of-number : (a b : Float) → T (not (isNan a)) → minNumber a b ≡ cond (lt b a) b a
 unfolding minNumber isNan
 min-of-number nan b p = absurd p

@@ -1,5 +1,5 @@
--- A loop that counts decoys and targets down a list, without a branch: the test of a label is 0 or 1, which goes to the decoys, and what it
--- lacks of 1 goes to the targets. The decoys start at 1, for the plus one.
+-- A loop that counts decoys and targets down a list, without a branch: the test of a label is 0 or 1, which goes to the
+-- decoys, and what it lacks of 1 goes to the targets. The decoys start at 1, for the plus one.
 use mathlib.Core.Path.{_≡_, refl, ap, _∙_}
 use mathlib.Core.List.{List}
 use mathlib.Core.Bool.{Bool, true, false, cond}

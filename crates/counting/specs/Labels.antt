@@ -1,9 +1,10 @@
 -- Labels. Document 01: "A label is a signed 32-bit number: −1 is a decoy, every other number a target."
 use mathlib.Core.List.{List, [], _∷_}
 use mathlib.Core.Bool.{Bool, false, cond}
-use Prim.Native.Nat.{ℕ, suc, _%_}
+use Prim.Native.Nat.{ℕ, suc, _-_}
 use lib.Dec.{eqb}
 use lib.IntN.{ℤ, pos, negsuc}
+use lib.ListN.{getD, set}
 
 abbrev pub isDecoy : ℤ → Bool
 isDecoy (pos n) = false
@@ -18,6 +19,10 @@ unfoldable pub targets : List ℤ → ℕ
 targets [] = 0
 targets (l ∷ ls) = cond (isDecoy l) (targets ls) (suc (targets ls))
 
--- the label that a key's last bit stands for: −1, a decoy's, for 1, and 0, a target's, for 0
-abbrev pub bitLabel : ℕ → ℤ
-bitLabel key = cond (eqb (key % 2) 1) (negsuc 0) (pos 0)
+-- a label turned into one of the other class: a decoy becomes 1, anything else −1
+abbrev pub flip : ℤ → ℤ
+flip label = cond (isDecoy label) (pos 1) (negsuc 0)
+
+-- the list with the label of one row flipped; rows count from 1
+unfoldable pub flipRow : ℕ → List ℤ → List ℤ
+flipRow row labels = set labels (row - 1) (flip (getD labels (row - 1) (pos 0)))

@@ -1,19 +1,20 @@
--- Q-values. Document 01: "The counting rule (decoys plus one, over targets, then the running minimum from the bottom)"; module 6: "the rounded
--- q-value is the counting rule's in f32, its minimum starting at 1.0".
+-- Q-values. Document 01: "The counting rule (decoys plus one, over targets, then the running minimum from the bottom)";
+-- module 6: "the rounded q-value is the counting rule's in f32, its minimum starting at 1.0".
 use mathlib.Core.List.{List, [], _∷_}
 use mathlib.Core.Bool.{cond}
 use Prim.Native.Nat.{ℕ, suc, _+_}
-use lib.IntN.{ℤ, pos}
+use lib.IntN.{ℤ}
 use lib.ListN.{length, take}
-use lib.Ieee.{Float, binary32, div, le, ofInt}
+use lib.Ieee.{Float, binary32, div, le}
 use Rattle.floats.specs.Constants.{f32One}
 use Rattle.folds.specs.Lists.{tabulated}
+use Rattle.floats.specs.Ratio.{f32OfCount}
 use Rattle.floats.specs.MinMax.{minNumber}
 use Rattle.counting.specs.Labels.{isDecoy, decoys, targets}
 
 -- a over b, as f32: both counts as f32, and their quotient rounded
 abbrev pub ratio : ℕ → ℕ → Float
-ratio a b = div binary32 (ofInt binary32 (pos a)) (ofInt binary32 (pos b))
+ratio a b = div binary32 (f32OfCount a) (f32OfCount b)
 
 -- decoys plus one, over targets, up to a row; rows count from 1
 unfoldable pub ratioAt : List ℤ → ℕ → Float

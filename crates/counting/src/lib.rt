@@ -1,4 +1,5 @@
-// The target-decoy counting rule: definitions in specs/, laws in proofs/. `qvalue`, `line_check` and `precursor` have its calls.
+// The target-decoy counting rule: definitions in specs/, laws in proofs/. `qvalue`, `line_check` and `precursor` have
+// its calls.
 ghost use mathlib.Core.Path.{_≡_};
 ghost use Rattle.counting.specs.Labels.{decoys};
 

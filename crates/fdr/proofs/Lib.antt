@@ -1,9 +1,9 @@
-pub mod Keys
-pub mod Packing
+pub mod Numbers
+pub mod SidesPacked
 pub mod Sides
-pub mod Ratios
+pub mod Sums
 pub mod Minima
-pub mod Naming
+pub mod NameColumn
 pub mod Joined
-pub mod Answers
+pub mod Questions
 pub mod Points

@@ -1,3 +1,4 @@
-pub mod Rows
-pub mod QValues
-pub mod Passes
+pub mod Sides
+pub mod SideQValues
+pub mod NameQValues
+pub mod Inner

@@ -1,5 +1,5 @@
--- The fields of an f64's bits: the sign is the highest bit, and the exponent field of a finite value counts the binary digits that its
--- magnitude has in units of the smallest value, from the 53rd on.
+-- The fields of an f64's bits: the sign is the highest bit, and the exponent field of a finite value counts the binary
+-- digits that its magnitude has in units of the smallest value, from the 53rd on.
 use mathlib.Core.Path.{_≡_, refl, sym, ap, _∙_, subst}
 use mathlib.Core.Logic.{_⊎_, inl, inr}
 use Prim.Native.Nat.{ℕ, suc, _+_, _-_, _*_, _/_, _%_, _^_, _≤_, _<_}

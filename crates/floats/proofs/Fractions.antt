@@ -1,12 +1,13 @@
--- Operations and comparisons of finite floats by the fractions that they equal: where x is ±a/c and y is ±b/d, a comparison is
--- that of a·d with b·c, and an operation is one rounding of the exact result, however the two floats are written.
+-- Operations and comparisons of finite floats by the fractions that they equal: where x is ±a/c and y is ±b/d, a
+-- comparison is that of a·d with b·c, and an operation is one rounding of the exact result, however the two floats are
+-- written.
 use mathlib.Core.Path.{_≡_, refl, sym, ap, ap₂, _∙_}
 use mathlib.Core.Bool.{Bool, true, false, not, _&&_, _||_, Bool·beq, cond}
 use Prim.Native.Nat.{ℕ, zero, suc, _+_, _-_, _*_, _^_, _≤_, _<_}
 use native.Mathlib.Nat.{add-comm, add-zero, zero-mul, mul-comm, mul-assoc, mul-left-comm, add-mul, mul-pos, mul-mul-mul-comm}
-use native.Mathlib.Nat.{le-trans, le-of-eq, not-le-of-lt, mul-right-comm, mul-sub, mul-le-mul-right, mul-lt-mul-of-pos-right, le-of-mul-le-mul-right, eq-of-mul-eq-mul-right, lt-irrefl, zero-lt-suc}
+use native.Mathlib.Nat.{mul-right-comm, mul-sub, mul-le-mul-right, mul-lt-mul-of-pos-right, eq-of-mul-eq-mul-right, lt-irrefl, zero-lt-suc}
 use borrow.Author.Tests.{ltb-true, ltb-false, eqb-true, eqb-false, lt-ltb, le-ltb, eq-eqb, ne-eqb}
-use lib.Dec.{T, leb, ltb, ltb→lt, eqb, eqb·suc-zero}
+use lib.Dec.{leb, ltb, eqb, eqb·suc-zero}
 use lib.Ieee.{Float, nan, inf, fin, Format, prec, emax, low, up, down, unlike, below, level, odd, units, round, sum, neg, add, sub, div, lt, eq, le}
 use lib.Ieee.Fits.{up-pos, down-pos, round-is}
 use lib.Ieee.Exact.{HasValue}
@@ -20,6 +21,13 @@ rescale (fin t m e) s a c b d C h v = (
   eq-of-mul-eq-mul-right c C (m * up e * d) (b * down e)
       (mul-right-comm (m * up e) d c ∙ ap (λ (z : ℕ). z * d) (v .1) ∙ mul-right-comm a (down e) d ∙ ap (λ (z : ℕ). z * down e) h ∙ mul-right-comm b c (down e)),
 )
+
+pub neg-value : (x : Float) (s : Bool) (a c : ℕ) → HasValue x s a c → HasValue (neg x) (not s) a c
+unfolding neg
+neg-value (fin u m e) s a c v = (ap not (v .0), v .1)
+
+pub sub-mul : (a b c : ℕ) → (a - b) * c ≡ a * c - b * c
+sub-mul a b c = mul-comm (a - b) c ∙ mul-sub c a b ∙ ap₂ _-_ (mul-comm c a) (mul-comm c b)
 
 -- ---- a common factor changes no comparison
 ltb-scale : (a b k : ℕ) → 0 < k → ltb (a * k) (b * k) ≡ ltb a b
@@ -97,55 +105,65 @@ module _ (s t : Bool) (a c b d : ℕ) (C : 0 < c) (D : 0 < d) where
       (round-same f (unlike s t) (m * up e * down g) (suc n * up g * down e) (a * d) (b * c)
       (mul-pos (mul-pos (zero-lt-suc n) (up-pos g)) (down-pos e)) (mul-pos B C) (quotient (m * up e) (down e) (suc n * up g) (down g) (v .1) (w .1)))
 
+-- ---- over one denominator
+
+-- ±x / k and ±y / k, which are ±a / c and ±b / c
+sum-same : (f : Format) (s t : Bool) (x y k a b c : ℕ) → 0 < k → 0 < c → x * c ≡ a * k → y * c ≡ b * k → sum f s x t y k ≡ sum f s a t b c
+unfolding sum
+sum-same f s t x y k a b c K C h l =
+    rw (
+      order x y a b h l,
+      order y x b a l h,
+      round-same f s (x + y) k (a + b) c K C (add-mul x y c ∙ ap₂ _+_ h l ∙ sym (add-mul a b k)),
+      round-same f t (y - x) k (b - a) c K C (apart y x b a l h),
+      round-same f (s && ltb b a) (x - y) k (a - b) c K C (apart x y a b h l),
+    )
+  where
+    order : (x y a b : ℕ) → x * c ≡ a * k → y * c ≡ b * k → ltb x y ≡ ltb a b
+    order x y a b h l = sym (ltb-scale x y c C) ∙ ap₂ ltb h l ∙ ltb-scale a b k K
+
+    apart : (x y a b : ℕ) → x * c ≡ a * k → y * c ≡ b * k → (x - y) * c ≡ (a - b) * k
+    apart x y a b h l = sub-mul x y c ∙ ap₂ _-_ h l ∙ sym (sub-mul a b k)
+
+module _ (s t : Bool) (a b c : ℕ) (C : 0 < c) where
+  pub lt-over : (x y : Float) → HasValue x s a c → HasValue y t b c → lt x y ≡ below s a t b
+  lt-over x y v w = lt-at s t a c b c C C x y v w ∙ below-scale s a t b c C
+
+  pub add-over : (f : Format) (x y : Float) → HasValue x s a c → HasValue y t b c → add f x y ≡ sum f s a t b c
+  unfolding add
+  add-over f (fin s' m e) (fin t' n g) v w =
+      rw (v .0, w .0)
+      (sum-same f s t (m * up e * down g) (n * up g * down e) (down e * down g) a b c (mul-pos (down-pos e) (down-pos g)) C
+      (mul-right-comm (m * up e) (down g) c ∙ ap (λ (z : ℕ). z * down g) (v .1) ∙ mul-assoc a (down e) (down g))
+      (mul-right-comm (n * up g) (down e) c ∙ ap (λ (z : ℕ). z * down e) (w .1) ∙ mul-right-comm b (down g) (down e) ∙ mul-assoc b (down e) (down g)))
+
+pub sub-over : (s t : Bool) (a b c : ℕ) → 0 < c → (f : Format) (x y : Float) → HasValue x s a c → HasValue y t b c → sub f x y ≡ sum f s a (not t) b c
+unfolding sub
+sub-over s t a b c C f x y v w = add-over s (not t) a b c C f x (neg y) v (neg-value y t b c w)
+
 -- two of one sign
 pub add-at : (f : Format) (x y : Float) (s : Bool) (a c b d : ℕ) → 0 < c → 0 < d → HasValue x s a c → HasValue y s b d
     → add f x y ≡ round f s (a * d + b * c) (c * d)
-unfolding add
-add-at f (fin s' m e) (fin t' n g) s a c b d C D v w =
-    rw (v .0, w .0, sum-like f s (m * up e * down g) (n * up g * down e) (down e * down g))
-    (round-same f s (m * up e * down g + n * up g * down e) (down e * down g) (a * d + b * c) (c * d) (mul-pos (down-pos e) (down-pos g)) (mul-pos C D)
-    (rw (add-mul, add-mul, cross (m * up e) (down e) a c (down g) d (v .1), cross′ (n * up g) (down g) b d (down e) c (w .1))))
+add-at f x y s a c b d C D v w =
+    add-over s s (a * d) (b * c) (c * d) (mul-pos C D) f x y
+    (rescale x s a c (a * d) (c * d) C (mul-left-comm a c d ∙ mul-comm c (a * d)) v)
+    (rescale y s b d (b * c) (c * d) D (sym (mul-assoc b c d)) w)
+    ∙ sum-like f s (a * d) (b * c) (c * d)
 
 -- ---- over one denominator, of values that are not negative
 
 pub lt-values : (x y : Float) (a b c : ℕ) → 0 < c → HasValue x false a c → HasValue y false b c → lt x y ≡ ltb a b
-lt-values x y a b c C v w = lt-at false false a c b c C C x y v w ∙ ltb-scale a b c C
+lt-values x y a b c C = lt-over false false a b c C x y
 
 pub le-values : (x y : Float) (a b c : ℕ) → 0 < c → HasValue x false a c → HasValue y false b c → le x y ≡ leb a b
 le-values x y a b c C v w = le-at false false a c b c C C x y v w ∙ simp add-zero (leb-scale a b c C)
 
 pub add-values : (f : Format) (x y : Float) (a b c : ℕ) → 0 < c → HasValue x false a c → HasValue y false b c → add f x y ≡ round f false (a + b) c
-add-values f x y a b c C v w =
-    add-at f x y false a c b c C C v w
-    ∙ round-same f false (a * c + b * c) (c * c) (a + b) c (mul-pos C C) C (ap (λ (z : ℕ). z * c) (sym (add-mul a b c)) ∙ mul-assoc (a + b) c c)
-
--- the difference of ±a and a b that is no larger
-pick : (f : Format) (a b c : ℕ) → b ≤ a → sum f false a true b c ≡ round f false (a - b) c
-unfolding sum
-pick f a b c h = go (ltb a b) (ltb→lt a b)
-  where
-    go : (t : Bool) → (T t → a < b) → cond t (round f true (b - a) c) (round f false (a - b) c) ≡ round f false (a - b) c
-    go true k = absurd (not-le-of-lt (k tt) h)
-    go false k = refl
-
-pub sub-mul : (a b c : ℕ) → (a - b) * c ≡ a * c - b * c
-sub-mul a b c = mul-comm (a - b) c ∙ mul-sub c a b ∙ ap (λ (z : ℕ). z - c * b) (mul-comm c a) ∙ ap (λ (z : ℕ). a * c - z) (mul-comm c b)
+add-values f x y a b c C v w = add-over false false a b c C f x y v w ∙ sum-like f false a b c
 
 pub sub-values : (f : Format) (x y : Float) (a b c : ℕ) → 0 < c → b ≤ a → HasValue x false a c → HasValue y false b c → sub f x y ≡ round f false (a - b) c
-unfolding sub add neg
-sub-values f (fin s m e) (fin t n g) a b c C h v w =
-    let A = m * up e * down g in
-    let B = n * up g * down e in
-    let D = down e * down g in
-    let p : A * (c * c) ≡ a * c * D = cross (m * up e) (down e) a c (down g) c (v .1) in
-    let q : B * (c * c) ≡ b * c * D = cross′ (n * up g) (down g) b c (down e) c (w .1) in
-    let l : B ≤ A =
-    le-of-mul-le-mul-right (le-trans (le-of-eq q) (le-trans (mul-le-mul-right D (mul-le-mul-right c h)) (le-of-eq (sym p)))) (mul-pos C C) in
-    ap₂ (λ (i j : Bool). sum f i A (not j) B D) (v .0) (w .0)
-    ∙ pick f A B D l
-    ∙ round-same f false (A - B) D ((a - b) * c) (c * c) (mul-pos (down-pos e) (down-pos g)) (mul-pos C C)
-    (sub-mul A B (c * c) ∙ ap₂ _-_ p q ∙ sym (sub-mul (a * c) (b * c) D) ∙ ap (λ (z : ℕ). z * D) (sym (sub-mul a b c)))
-    ∙ round-same f false ((a - b) * c) (c * c) (a - b) c (mul-pos C C) C (mul-assoc (a - b) c c)
+unfolding sum
+sub-values f x y a b c C h v w = sub-over false false a b c C f x y v w ∙ rw (le-ltb a b h)
 
 -- ---- the negative turns the order round
 pub neg-neg : (x : Float) → neg (neg x) ≡ x
@@ -155,10 +173,6 @@ neg-neg (inf true) = refl
 neg-neg (inf false) = refl
 neg-neg (fin true m e) = refl
 neg-neg (fin false m e) = refl
-
-pub neg-value : (x : Float) (s : Bool) (a c : ℕ) → HasValue x s a c → HasValue (neg x) (not s) a c
-unfolding neg
-neg-value (fin u m e) s a c v = (ap not (v .0), v .1)
 
 turned : (s t : Bool) (x y : ℕ)
     → leb (gain (not s) x + loss (not t) y) (gain (not t) y + loss (not s) x) ≡ leb (gain t y + loss s x) (gain s x + loss t y)

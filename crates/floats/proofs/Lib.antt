@@ -11,3 +11,8 @@ pub mod MinMax
 pub mod Order
 pub mod TotalOrder
 pub mod Ratio
+pub mod Zeros
+pub mod Differences
+pub mod Nans
+pub mod Infinities
+pub mod Extremes

@@ -1,4 +1,4 @@
--- The lesser and the greater of two floats as the code finds them: first by `<`, then by the test for a NaN.
+-- The smaller and the larger of two floats as the code finds them: first by `<`, then by the test for a NaN.
 -- Only the NaN differs from itself, so the second test picks out the first clause of the definition.
 use mathlib.Core.Path.{_≡_, refl}
 use mathlib.Core.Bool.{true, false, not, cond}

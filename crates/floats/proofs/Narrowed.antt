@@ -1,5 +1,5 @@
--- What `narrow` works out, as floats: below the end of f32 the sum of the magnitude and the power of two, less that power, is the
--- magnitude converted; from there on an infinity is; and the sign goes on last.
+-- What `narrow` works out, as floats: below the end of f32 the sum of the magnitude and the power of two, less that
+-- power, is the magnitude converted; from there on an infinity is; and the sign goes on last.
 use mathlib.Core.Path.{_≡_, refl, sym, ap, _∙_}
 use mathlib.Core.Logic.{inl, inr}
 use Prim.Native.Nat.{ℕ, zero, suc, _+_, _-_, _*_, _/_, _^_, _≤_, _<_, max}
@@ -18,7 +18,7 @@ use Rattle.folds.proofs.Tests.{lt-or-ge}
 use Rattle.floats.specs.Convert.{converted}
 use Rattle.floats.specs.MinMax.{maxNumber}
 use Rattle.floats.specs.Signs.{negative, absolute}
-use Rattle.floats.proofs.Values.{unitsOf, fitting, units-value}
+use Rattle.floats.proofs.Values.{unitsOf, in-format, units-value}
 use Rattle.floats.proofs.Fractions.{lt-values, le-values, neg-round}
 use Rattle.floats.proofs.Narrowing.{end, rounded, in-range, out-of-range, place-of}
 use Rattle.floats.proofs.Fields.{exponent, power}
@@ -34,7 +34,7 @@ limit-value = (refl, refl)
 
 module _ (s : Bool) (m : ℕ) (e : ℤ) (h : T (fits binary64 (fin s m e))) where
   in-full : m * up e * 2 ^ 1074 ≡ unitsOf binary64 m e * down e
-  in-full = units-value binary64 s m e (fitting binary64 s m e h) .1
+  in-full = units-value binary64 s m e (in-format binary64 s m e h) .1
 
   limit-at : le limit (fin false m e) ≡ leb end (unitsOf binary64 m e)
   limit-at = le-values limit (fin false m e) end (unitsOf binary64 m e) (2 ^ 1074) (pow-pos 1074) limit-value (refl, in-full)
@@ -67,7 +67,7 @@ unit-value n h =
     let e : suc (n + 28) ≡ n + 29 = omega arith in
     rw e at (power (n + 28) (omega arith))
 
--- of two such powers the greater has the greater field
+-- of two such powers the larger has the larger field
 pub max-unit : (n : ℕ) → n ≤ 1150 → maxNumber (unitAt 897) (unitAt n) ≡ unitAt (max 897 n)
 unfolding maxNumber ofBits
 max-unit n h =
@@ -104,7 +104,7 @@ summed (fin false m e) w h k p t q =
     let z : max 897 (size N - 52) ≡ 897 + i = omega arith in
     let u : 897 + i + 28 ≡ 925 + i = omega arith in
     rw (q, exponent m e, z)
-    (rounded N i place (fin false m e) (unitAt (897 + i)) (units-value binary64 false m e (fitting binary64 false m e h))
+    (rounded N i place (fin false m e) (unitAt (897 + i)) (units-value binary64 false m e (in-format binary64 false m e h))
     (rw u at (unit-value (897 + i) (omega (arith, place .most)))) (in-range N i place (stays false m e h t)))
     ∙ sym (by-units false m e h)
 

@@ -1,6 +1,6 @@
--- Narrowing by a sum. A magnitude is N units of 2 ^ -1074, the smallest f64. Its f32 keeps 24 digits, or what lies above 2 ^ -149: that is
--- rounding N to a multiple of 2 ^ (925 + i) units. Adding 2 ^ 52 such multiples leaves an f64 no digit below them, so the sum rounds just
--- there, and, 2 ^ 52 being even, ties go where narrowing has them go.
+-- Narrowing by a sum. A magnitude is N units of 2 ^ -1074, the smallest f64. Its f32 keeps 24 digits, or what lies
+-- above 2 ^ -149: that is rounding N to a multiple of 2 ^ (925 + i) units. Adding 2 ^ 52 such multiples leaves an f64
+-- no digit below them, so the sum rounds just there, and, 2 ^ 52 being even, ties go where narrowing has them go.
 use mathlib.Core.Path.{_≡_, refl, sym, ap, _∙_, subst}
 use mathlib.Core.Logic.{_⊎_, inl, inr}
 use Prim.Native.Nat.{ℕ, suc, _+_, _-_, _*_, _/_, _%_, _^_, _≤_, _<_, compare, Ordering, Ordering·lt, Ordering·eq, Ordering·gt}
@@ -51,7 +51,9 @@ size-is n j l h =
 grid-at : (f : Format) (a c j : ℕ) → drop (prec f) (a * 2 ^ low f) c ≡ j → grid f a c ≡ closest (a * 2 ^ low f) (c * 2 ^ j) * 2 ^ j
 grid-at f a c j e = ap (λ (k : ℕ). closest (a * 2 ^ low f) (c * 2 ^ k) * 2 ^ k) e
 
--- ---- the two roundings of N. `place` is where its last kept digit stands: at 2 ^ (925 + i), and i is 0 unless N has 949 digits or more
+-- ---- the two roundings of N
+
+-- `place` is where its last kept digit stands: at 2 ^ (925 + i), and i is 0 unless N has 949 digits or more
 
 pub record Place (N i : ℕ) : Type 0 where
   pub under : N < 2 ^ (949 + i)

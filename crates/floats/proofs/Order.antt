@@ -1,5 +1,6 @@
--- The order of all floats. A finite value is a difference of two naturals over a denominator, so that `<`, `==` and `<=` are those
--- of cross-multiplied sums; from that `<=` is transitive, and off the NaN `x < y` is the opposite of `y <= x`. The rest follows.
+-- The order of all floats. A finite value is a difference of two naturals over a denominator, so that `<`, `==` and
+-- `<=` are those of cross-multiplied sums; from that `<=` is transitive, and off the NaN `x < y` is the opposite of `y
+-- <= x`. The rest follows.
 use mathlib.Core.Path.{_≡_, refl, sym, _∙_}
 use mathlib.Core.Logic.{_⊎_, inl, inr}
 use mathlib.Core.Bool.{Bool, true, false, not, _&&_, _||_, cond, and-true, false≢true}
@@ -120,17 +121,17 @@ le-right x (fin s m e) p = tt
 -- ---- the two laws from which the rest follows
 
 -- −infinity is at most every number
-lowest : (x : Float) → T (not (isNan x)) → T (le (inf true) x)
+minus-infinity-least : (x : Float) → T (not (isNan x)) → T (le (inf true) x)
 unfolding isNan le
-lowest nan p = absurd p
-lowest (inf true) p = tt
-lowest (inf false) p = tt
-lowest (fin s m e) p = tt
+minus-infinity-least nan p = absurd p
+minus-infinity-least (inf true) p = tt
+minus-infinity-least (inf false) p = tt
+minus-infinity-least (fin s m e) p = tt
 
 pub le-trans : (x y z : Float) → T (le x y) → T (le y z) → T (le x z)
 unfolding le
 le-trans nan y z p q = absurd p
-le-trans (inf true) y z p q = lowest z (le-right y z q)
+le-trans (inf true) y z p q = minus-infinity-least z (le-right y z q)
 le-trans (inf false) nan z p q = absurd p
 le-trans (inf false) (inf true) z p q = absurd p
 le-trans (inf false) (inf false) z p q = q
@@ -206,7 +207,7 @@ not-lt→le x y p q e = go (le y x) (sym e ∙ lt-is-not-le x y p q)
 pub le-refl : (x : Float) → T (not (isNan x)) → T (le x x)
 le-refl x p = elim (le-total x x p p) [ inl t ↦ t | inr t ↦ t ]
 
--- ---- the lesser and the greater
+-- ---- the smaller and the larger
 
 -- where one test implies the other, the two joined are the other
 or-is-right : (a b : Bool) → (T a → T b) → b ≡ (a || b)
@@ -225,7 +226,7 @@ lower a b c p = go (lt b a) refl
     go true e = or-is-right (le a c) (le b c) (λ q. le-trans b a c (lt→le b a (passes _ e)) q)
     go false e = or-is-left (le a c) (le b c) (λ q. le-trans a b c (not-lt→le b a (le-left b c q) p e) q)
 
--- the second if it is greater, else the first: at least c where one of them is
+-- the second if it is larger, else the first: at least c where one of them is
 upper : (a b c : Float) → T (not (isNan a)) → le c (cond (lt a b) b a) ≡ (le c a || le c b)
 upper a b c p = go (lt a b) refl
   where

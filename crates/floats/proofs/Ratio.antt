@@ -1,5 +1,6 @@
--- Ratios of two counts, as f32. Counts up to 2^24 are f32 exactly, so their ratio is one rounding of the true ratio, and rounding
--- keeps the order: whether a ratio d/t is at most the f32 nearest to 1/k is then the question of whole numbers whether k·d ≤ t.
+-- Ratios of two counts, as f32. Counts up to 2^24 are f32 exactly, so their ratio is one rounding of the true ratio,
+-- and rounding keeps the order: whether a ratio d/t is at most the f32 nearest to 1/k is then the question of whole
+-- numbers whether k·d ≤ t.
 use mathlib.Core.Path.{_≡_, refl, _∙_}
 use mathlib.Core.Bool.{Bool, true, false}
 use Prim.Native.Nat.{ℕ, zero, suc, _+_, _-_, _*_, _^_, _≤_, _<_}
@@ -68,7 +69,8 @@ inf-lt (fin t n d) = refl
 inf-le : (x y : Float) → T (lt x y) → le (inf false) x ≡ false
 inf-le x y h = no-truth (le (inf false) x) (λ t. rw inf-lt at (lt-of-le-of-lt (inf false) x y t h))
 
--- The next ratio above 1/k that two counts below 2^24 can have is 2^24 / (k·(2^24 − 1)) or more: the format tells it from 1/k.
+-- The next ratio above 1/k that two counts below 2^24 can have is 2^24 / (k·(2^24 − 1)) or more: the format tells it
+-- from 1/k.
 abbrev pub Sharp : ℕ → Type 0
 Sharp k = T (lt (oneIn k) (round binary32 false (2 ^ 24) (k * (2 ^ 24 - 1))))
 

@@ -1,17 +1,20 @@
--- Signs of floats: the sign is the highest bit, above the bits of the magnitude, and rounding keeps the sign that it is handed. Assumes
--- nothing.
+-- Signs of floats: the sign is the highest bit, above the bits of the magnitude, and rounding keeps the sign that it is
+-- handed.
 use mathlib.Core.Path.{_≡_, refl, sym, _∙_}
 use mathlib.Core.Bool.{Bool, true, false, not, cond, true≢false}
 use Prim.Native.Nat.{ℕ, zero, suc, _+_, _*_, _^_, _<_}
 use native.Mathlib.Nat.{zero-add, add-assoc}
 use native.Mathlib.Omega.{arith}
 use lib.Dec.{T, ltb, lit<}
-use lib.IntN.{ℤ}
-use lib.Ieee.{Float, nan, inf, fin, Format, binary32, binary64, prec, low, emax, odd, units, round, fits, isNan, top, toBits}
+use lib.IntN.{ℤ, pos}
+use lib.Ieee.{Float, nan, inf, fin, Format, binary32, binary64, prec, low, emax, odd, units, round, lt, fits, isNan, top, toBits}
 use lib.Ieee.Fits.{round-is}
 use lib.Ieee.Bits.{toBits-lt}
 use Rattle.floats.specs.Signs.{negative, absolute}
 use Rattle.floats.specs.Convert.{converted}
+use Rattle.floats.specs.Whole.{ceiled}
+use Rattle.floats.specs.MinMax.{maxNumber}
+use Rattle.floats.proofs.Order.{le-right, lt→le, lt-of-lt-of-le, max-ge-right}
 
 -- ---- the magnitude
 
@@ -85,3 +88,24 @@ unfolding converted
 converted-sign f nan = refl
 converted-sign f (inf s) = refl
 converted-sign f (fin s m e) = round-sign f s _ _
+
+ceil-sign : (f : Format) (x : Float) → negative (ceiled f x) ≡ negative x
+unfolding ceiled
+ceil-sign f nan = refl
+ceil-sign f (inf s) = refl
+ceil-sign f (fin s m e) = round-sign f s _ 1
+
+above-sign : (x : Float) → T (lt (fin false 0 (pos 0)) x) → negative x ≡ false
+unfolding lt
+above-sign nan t = refl
+above-sign (inf true) t = absurd t
+above-sign (inf false) t = refl
+above-sign (fin true m e) t = absurd t
+above-sign (fin false m e) t = refl
+
+-- the greater of anything and a number above zero is above zero, and so is its ceiling: abs() changes nothing
+pub ceil-max-absolute : (f : Format) (x y : Float) → T (lt (fin false 0 (pos 0)) y) → absolute (ceiled f (maxNumber x y)) ≡ ceiled f (maxNumber x y)
+ceil-max-absolute f x y t =
+    let z = fin false 0 (pos 0) in
+    let up = max-ge-right x y (le-right z y (lt→le z y t)) in
+    no-sign (ceiled f (maxNumber x y)) (ceil-sign f (maxNumber x y) ∙ above-sign (maxNumber x y) (lt-of-lt-of-le z y (maxNumber x y) t up))

@@ -1,5 +1,5 @@
--- The total order of floats, and the keys that stand as it does. A key is the sign with the magnitude's bits, and those bits grow with the
--- magnitude: weakly since a number's leading digits do, and strictly since the bits tell the value.
+-- The total order of floats, and the keys that stand as it does. A key is the sign with the magnitude's bits, and those
+-- bits grow with the magnitude: weakly since a number's leading digits do, and strictly since the bits tell the value.
 use mathlib.Core.Path.{_≡_, refl, sym, ap, ap₂, _∙_}
 use mathlib.Core.Logic.{_⊎_, inl, inr}
 use mathlib.Core.Bool.{Bool, true, false, not, _&&_, _||_, cond, and-true, and-false, or-false}
@@ -26,7 +26,7 @@ use Rattle.floats.specs.declared.Ordering.the-variants.{Less, Equal, Gre
 use denote.Floats.{passes}
 use Rattle.folds.proofs.Tests.{same-test, yes-or-no, or-split, or-l}
 use Rattle.floats.proofs.Signs.{absolute-fits, bits-sign, magnitude-lt}
-use Rattle.floats.proofs.Values.{unitsOf, fitting, units-below}
+use Rattle.floats.proofs.Values.{unitsOf, in-format, units-below}
 use Rattle.floats.proofs.Order.{both-zero, lt→le, eq→le, lt→not-le, lt-trans, lt-of-le-of-lt, lt-of-lt-of-le}
 
 -- ---- a strict order of all floats
@@ -119,7 +119,7 @@ kept-above f n h =
     let k = size n - prec f in
     le-div-iff-mul-le (pow-pos k) .1 (rw (← (pow-add 2 (prec f - 1) k)) (size-reaches n (prec f - 1 + k) (in-use (size n) (prec f) (two f) h)))
 
--- of a lesser number fewer digits are dropped
+-- of a smaller number fewer digits are dropped
 fewer : (f : Format) (a b : ℕ) → a ≤ b → size a - prec f ≤ size b - prec f
 fewer f a b h =
     let l : a < 2 ^ size b = omega (arith, size-lt b) in
@@ -184,7 +184,7 @@ unfolding toBits
 fin-below f m e p =
     let n = unitsOf f m e in
     let k = size n - prec f in
-    let b = units-below f m e (fitting f false m e p) in
+    let b = units-below f m e (in-format f false m e p) in
     let c : k + 2 ≤ ones f = omega (arith, size-le n (low f + suc (emax f)) b, two f, reach f) in
     omega (arith, add-mul k 2 (hid f), mul-le-mul-right (hid f) c, kept-below f n)
 

@@ -1,5 +1,6 @@
--- A finite value of a format is a whole number of the format's smallest values, its units. A format has one value for each sign and
--- number, since the bits are worked out from the sign and the units alone; so rounding a value of the format gives it back.
+-- A finite value of a format is a whole number of the format's smallest values, its units. A format has one value for
+-- each sign and number, since the bits are worked out from the sign and the units alone; so rounding a value of the
+-- format gives it back.
 use mathlib.Core.Path.{_≡_, refl, sym, ap, _∙_, subst}
 use Prim.Native.Nat.{ℕ, zero, suc, _+_, _-_, _*_, _/_, _%_, _^_, _≤_, _<_}
 use native.Mathlib.Nat.{le-of-suc-le-suc, lt-of-not-le, lt-of-lt-of-le, lt-irrefl, mul-one, one-mul, mul-comm, mul-assoc, mul-right-comm, mul-pos, zero-mul, mul-div-cancel, eq-of-mul-eq-mul-right, lt-of-mul-lt-mul-right, mul-lt-mul-of-pos-right}
@@ -21,7 +22,7 @@ unitsOf f m e = m * up e * 2 ^ low f / down e
 
 -- ---- what `fits` says of a finite value
 
-pub record Fitting (f : Format) (m : ℕ) (e : ℤ) : Type 0 where
+pub record InFormat (f : Format) (m : ℕ) (e : ℤ) : Type 0 where
   pub digits : m < 2 ^ prec f
   pub fine : down e ≤ 2 ^ low f
   pub bounded : m * up e < 2 ^ suc (emax f) * down e
@@ -36,14 +37,14 @@ small-den f n h = omega (arith, pow-pos (low f))
 zero-below : (f : Format) (e : ℤ) → 0 * up e < 2 ^ suc (emax f) * down e
 zero-below f e = subst (λ (x : ℕ). x < 2 ^ suc (emax f) * down e) (sym (zero-mul (up e))) (mul-pos (pow-pos (suc (emax f))) (down-pos e))
 
-pub fitting : (f : Format) (s : Bool) (m : ℕ) (e : ℤ) → T (fits f (fin s m e)) → Fitting f m e
+pub in-format : (f : Format) (s : Bool) (m : ℕ) (e : ℤ) → T (fits f (fin s m e)) → InFormat f m e
 unfolding fits
-fitting f s zero e h = record {
+in-format f s zero e h = record {
   digits = pow-pos (prec f);
   fine = small-den f (down e) (flat e (eqb→eq (up e * down e) 1 h));
   bounded = zero-below f e;
 }
-fitting f s (suc m) e h =
+in-format f s (suc m) e h =
     let A = eqb (suc m % 2) 1 in
     let B = ltb (suc m) (2 ^ prec f) in
     let C = leb (down e) (2 ^ low f) in
@@ -71,16 +72,16 @@ place l (negsuc a) h = (
 )
 
 -- a value of the format is its units times the smallest value, and is written m * 2 ^ j there
-pub in-units : (f : Format) (m : ℕ) (e : ℤ) → Fitting f m e → (j : ℕ) × (unitsOf f m e ≡ m * 2 ^ j) × (m * up e * 2 ^ low f ≡ m * 2 ^ j * down e)
+pub in-units : (f : Format) (m : ℕ) (e : ℤ) → InFormat f m e → (j : ℕ) × (unitsOf f m e ≡ m * 2 ^ j) × (m * up e * 2 ^ low f ≡ m * 2 ^ j * down e)
 in-units f m e h =
     let p = place (low f) e (h .fine) in
     (p .0, ap (λ (x : ℕ). x / down e) (p .1 m) ∙ mul-div-cancel (m * 2 ^ p .0) (down-pos e), p .1 m)
 
-pub units-value : (f : Format) (s : Bool) (m : ℕ) (e : ℤ) → Fitting f m e → HasValue (fin s m e) s (unitsOf f m e) (2 ^ low f)
+pub units-value : (f : Format) (s : Bool) (m : ℕ) (e : ℤ) → InFormat f m e → HasValue (fin s m e) s (unitsOf f m e) (2 ^ low f)
 units-value f s m e h =
     let p = in-units f m e h in (refl, p .2 ∙ ap (λ (x : ℕ). x * down e) (sym (p .1)))
 
-pub units-below : (f : Format) (m : ℕ) (e : ℤ) → Fitting f m e → unitsOf f m e < 2 ^ (low f + suc (emax f))
+pub units-below : (f : Format) (m : ℕ) (e : ℤ) → InFormat f m e → unitsOf f m e < 2 ^ (low f + suc (emax f))
 units-below f m e h =
     let p = in-units f m e h in
     subst (λ (x : ℕ). x < 2 ^ (low f + suc (emax f))) (sym (p .1))
@@ -126,7 +127,7 @@ value-unique f (fin t m e) (fin u n d) s a c p q C v w =
 
 pub round-self : (f : Format) (s : Bool) (m : ℕ) (e : ℤ) → T (fits f (fin s m e)) → round f s (m * up e) (down e) ≡ fin s m e
 round-self f s m e h =
-    let k = fitting f s m e h in
+    let k = in-format f s m e h in
     let p = in-units f m e k in
     value-unique f (round f s (m * up e) (down e)) (fin s m e) s (m * up e) (down e) (round-fits f s (m * up e) (down e)) h (down-pos e)
     (round-exact f s (m * up e) (down e) m (p .0) (down-pos e) (k .digits) (subst (λ (x : ℕ). x < 2 ^ (low f + suc (emax f))) (p .1) (units-below f m e k)) (p .2))

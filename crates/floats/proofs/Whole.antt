@@ -1,5 +1,5 @@
--- Floor and ceiling. A float of 2^(prec − 1) or more in size is whole. A smaller one is cut to a whole number that the format
--- holds exactly, and below zero a fraction takes one more away: so the code gives what `floored` says.
+-- Floor and ceiling. A float of 2^(prec − 1) or more in size is whole. A smaller one is cut to a whole number that the
+-- format holds exactly, and below zero a fraction takes one more away: so the code gives what `floored` says.
 use mathlib.Core.Path.{_≡_, refl, sym, ap, _∙_, subst}
 use mathlib.Core.Bool.{Bool, true, false, not, _&&_, _||_, Bool·beq, cond, true≢false, false≢true}
 use Prim.Native.Nat.{ℕ, zero, suc, _+_, _-_, _*_, _/_, _^_, _≤_, _<_, min}
@@ -20,7 +20,7 @@ use lib.Ieee.Exact.{HasValue}
 use lib.Ieee.Back.{round-whole}
 use lib.Ieee.Scale.{round-same}
 use Rattle.floats.specs.Whole.{ceiling, floored, ceiled}
-use Rattle.floats.proofs.Values.{fitting, round-self}
+use Rattle.floats.proofs.Values.{in-format, round-self}
 use Rattle.floats.proofs.Order.{gain, loss}
 use Rattle.floats.proofs.Fractions.{lt-at, eq-at, le-at, add-at, neg-value, neg-le, neg-neg, neg-round}
 
@@ -55,7 +55,7 @@ no-fraction : (f : Format) (s : Bool) (m : ℕ) (e : ℤ) → T (fits f (fin s m
     → (n : ℕ) × (n * down e ≡ m * up e)
 no-fraction f s m (pos k) t h = (m * 2 ^ k, mul-one (m * 2 ^ k))
 no-fraction f s m (negsuc k) t h =
-    absurd (omega (arith, fitting f s m (negsuc k) t .digits, mul-le-mul-left (2 ^ (prec f - 1)) (two-up k), doubled f, mul-one m))
+    absurd (omega (arith, in-format f s m (negsuc k) t .digits, mul-le-mul-left (2 ^ (prec f - 1)) (two-up k), doubled f, mul-one m))
 
 large : (f : Format) (s : Bool) (m : ℕ) (e : ℤ) → T (fits f (fin s m e)) → 2 ^ (prec f - 1) * down e ≤ m * up e → floored f (fin s m e) ≡ fin s m e
 large f s m e t h = let w = no-fraction f s m e t h in fixed f s m e (w .0) t (w .1)
@@ -88,7 +88,8 @@ floor-below f (fin true m e) t h = sym (large f true m e t (bare (2 ^ (prec f - 
 floor-below f (fin false m e) t h = absurd (never (2 ^ (prec f - 1)) (m * up e) (down e) (pow-pos (prec f - 1)) (down-pos e) h)
 
 -- ---- between the limits
--- What the code relies on there. z, which is x cut to an integer, passes to a float with nothing lost, and each answer is `floored`.
+-- What the code relies on there. z, which is x cut to an integer, passes to a float with nothing lost, and each answer
+-- is `floored`.
 pub record Cut (f : Format) (x : Float) (z : ℤ) : Type 0 where
   pub exact : T (inFloat f z)
   pub same : eq (ofInt f z) x ≡ true → x ≡ floored f x
@@ -272,7 +273,7 @@ part-greatest true false a d n D h = omega (arith, ceiling-least a d 0 D (omega 
 part-greatest false true a d n D h = omega arith
 part-greatest false false a d n D h = omega (arith, le-div-iff-mul-le {x = n} {y = a} D .1 (omega arith))
 
--- r is a whole number, not above x, and no whole number not above x is greater
+-- r is a whole number, not above x, and no whole number not above x is larger
 pub record Floor (x r : Float) : Type 0 where
   pub sign : Bool
   pub size : ℕ

@@ -7,15 +7,16 @@ use lib.Ieee.{Float, nan, inf, fin, Format, up, down, round}
 abbrev pub ceiling : ℕ → ℕ → ℕ
 ceiling a c = (a + (c - 1)) / c
 
--- IEEE 754-2019, 5.9, roundToIntegralTowardNegative: the greatest whole number not above x, with x's sign where it is zero.
--- So the magnitude of a negative x goes up to the next whole number, and that of any other goes down.
+-- IEEE 754-2019, 5.9, roundToIntegralTowardNegative: the greatest whole number not above x, with x's sign where it is
+-- zero. So the magnitude of a negative x goes up to the next whole number, and that of any other goes down.
 unfoldable pub floored : Format → Float → Float
 unfolding round
 floored f nan = nan
 floored f (inf s) = inf s
 floored f (fin s m e) = round f s (cond s (ceiling (m * up e) (down e)) (m * up e / down e)) 1
 
--- IEEE 754-2019, 5.9, roundToIntegralTowardPositive: the least whole number not below x, with x's sign where it is zero.
+-- IEEE 754-2019, 5.9, roundToIntegralTowardPositive: the least whole number not below x, with x's sign where it is
+-- zero.
 unfoldable pub ceiled : Format → Float → Float
 unfolding round
 ceiled f nan = nan

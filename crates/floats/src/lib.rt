@@ -1,19 +1,22 @@
-// Float helpers (document 01, module 1): what Rust's `as`, floor, ceil, min, max and total_cmp give, for every float, all NaNs taken as one, in
-// operations that lose nothing. Each contract is an equality with a definition of specs/ or of the toolchain's IEEE 754.
+// Float helpers (document 01, module 1): what Rust's `as`, floor, ceil, min, max and total_cmp give, for every float,
+// all NaNs taken as one, in operations that lose nothing. Each contract is an equality with a definition of specs/ or
+// of the toolchain's IEEE 754.
 ghost use mathlib.Core.Path.{_≡_};
 ghost use mathlib.Core.Bool.{false, not};
+ghost use Prim.Native.Nat.{_≤_};
 ghost use lib.Dec.{T};
 ghost use lib.Ieee.{binary32, binary64, toUnsigned, isNan};
 ghost use Rattle.floats.specs.Signs.{negative};
 ghost use Rattle.floats.specs.Convert.{converted};
 ghost use Rattle.floats.specs.Whole.{floored, ceiled};
 ghost use Rattle.floats.specs.MinMax.{minNumber, maxNumber};
-ghost use Rattle.floats.specs.TotalOrder.{compared, orderKey};
+ghost use Rattle.floats.specs.TotalOrder.{compared, signOf, orderKey};
+ghost use Rattle.floats.specs.Ratio.{f32OfCount};
 
 // The f32 nearest to a magnitude, ties to even, as an f64.
 //
-// Adding a power of two whose last f64 digit weighs as much as the result's last f32 digit rounds there, and taking it away
-// again is exact. Below the normal range of f32 that digit weighs 2^-149, so the power is at least 2^-97.
+// Adding a power of two whose last f64 digit weighs as much as the result's last f32 digit rounds there, and taking it
+// away again is exact. Below the normal range of f32 that digit weighs 2^-149, so the power is at least 2^-97.
 fn nearest_f32(size: f64) -> f64
     requires { ⌜ T (not (isNan size)) × (negative size ≡ false) ⌝ }
     ensures { λ r. ⌜ r ≡ converted binary32 size ⌝ }
@@ -48,6 +51,14 @@ pub fn widen(x: f32) -> f64
     ensures { λ r. ⌜ r ≡ converted binary64 x ⌝ }
 {
     std::num::f32_to_f64_with_nan(x)
+}
+
+// A count as an f32: exact up to 2^24.
+pub fn count_to_f32(count: u32) -> f32
+    requires { ⌜ count ≤ 16777216 ⌝ }
+    ensures { λ r. ⌜ r ≡ f32OfCount count ⌝ }
+{
+    count as f32
 }
 
 // Rust's `x as u64`: toward zero, to the nearest end of the range where x is out of it, 0 for a NaN.
@@ -192,8 +203,19 @@ pub enum Ordering {
     Greater,
 }
 
-// A number that stands among the numbers as x stands among the floats: the bits without the sign, upwards from the middle, or
-// downwards where the sign is on. The sign is a factor and not a branch.
+// −1, 0 or 1.
+pub fn sign(order: Ordering) -> i32
+    ensures { λ r. ⌜ r ≡ signOf order ⌝ }
+{
+    match order {
+        Ordering::Less => -1,
+        Ordering::Equal => 0,
+        Ordering::Greater => 1,
+    }
+}
+
+// A number that stands among the numbers as x stands among the floats: the bits without the sign, upwards from the
+// middle, or downwards where the sign is on. The sign is a factor and not a branch.
 pub fn order_key_f32(x: f32) -> u32
     ensures { λ r. ⌜ r ≡ orderKey binary32 x ⌝ }
 {

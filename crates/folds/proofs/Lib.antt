@@ -1,3 +1,5 @@
 pub mod Tests
 pub mod Walks
 pub mod Writing
+pub mod Stores
+pub mod Folds

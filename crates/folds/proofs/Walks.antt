@@ -1,5 +1,6 @@
--- The invariants of loops that walk a range, as records whose parameters are inferred: what is left to do of the walk, from the state at
--- hand, gives what the whole walk gives. A loop opens with `start`, takes a turn by `step`, and ends by `done`.
+-- The invariants of loops that walk a range, as records whose parameters are inferred: what is left to do of the walk,
+-- from the state at hand, gives what the whole walk gives. A loop opens with `start`, takes a turn by `step`, and ends
+-- by `done`.
 use mathlib.Core.Path.{_≡_, refl, sym, ap, _∙_, subst}
 use mathlib.Core.Logic.{_⊎_, inl, inr}
 use Prim.Native.Nat.{ℕ, zero, suc, _+_, _-_, _≤_, _<_, zero-le}

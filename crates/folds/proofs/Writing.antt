@@ -84,6 +84,18 @@ unfolding tabulated
 tabulated-constant f v h a zero = refl
 tabulated-constant {A} f v h a (suc k) = rw (h a, tabulated-constant f v h (suc a) k)
 
+tabulated-shift : {A : Type 0} (f : ℕ → A) (a k : ℕ) → tabulated f (suc a) k ≡ tabulated (λ (i : ℕ). f (suc i)) a k
+unfolding tabulated
+tabulated-shift f a zero = refl
+tabulated-shift {A} f a (suc k) = ap (λ (t : List A). f (suc a) ∷ t) (tabulated-shift f (suc a) k)
+
+-- of a list's elements
+pub tabulated-map : {A B : Type 0} (g : A → B) (d : A) (l : List A) → tabulated (λ (i : ℕ). g (getD l i d)) 0 (length l) ≡ map g l
+unfolding tabulated
+tabulated-map g d [] = refl
+tabulated-map {A} {B} g d (x ∷ l) =
+    ap (λ (t : List B). g x ∷ t) (tabulated-shift (λ (i : ℕ). g (getD (x ∷ l) i d)) 0 (length l) ∙ tabulated-map g d l)
+
 pub getD-constant : {A : Type 0} (n i : ℕ) (v : A) → getD (replicate n v) i v ≡ v
 getD-constant zero i v = refl
 getD-constant (suc n) zero v = refl
@@ -127,6 +139,11 @@ writing-all {i = i} w h = writing-done w (subst (λ (m : ℕ). m ≤ i) (w .same
 -- with one value
 pub writing-filled : {A : Type 0} {v d : A} {n : ℕ} {column : List A} {i : ℕ} → Writing (λ k. v) d n column i → length column ≤ i → column ≡ replicate n v
 writing-filled {v = v} {n = n} w h = writing-all w h ∙ tabulated-constant (λ k. v) v (λ k. refl) 0 n
+
+-- with a function of another column's entries
+pub writing-mapped : {A B : Type 0} (g : A → B) (c : A) {d : B} {n : ℕ} (l : List A) {column : List B} {i : ℕ}
+    → Writing (λ k. g (getD l k c)) d n column i → n ≡ length l → length column ≤ i → column ≡ map g l
+writing-mapped g c l w e h = writing-all w h ∙ rw e (tabulated-map g c l)
 
 -- with another column's entries
 pub writing-copied : {A : Type 0} {d : A} {l column : List A} {i : ℕ} → Writing (λ k. getD l k d) d (length l) column i → length l ≤ i → column ≡ l

@@ -1,7 +1,8 @@
--- Lent columns. Document 01: a refusal "fills each lent result column, at its own length, with NaN (floats) or 4,294,967,295 (32-bit whole
--- numbers)", and working columns "hold 0 in every place afterwards".
+-- Columns as lists. Document 01: a refusal "fills each lent result column, at its own length, with NaN (floats) or
+-- 4,294,967,295 (32-bit whole numbers)", and working columns "hold 0 in every place afterwards".
 use mathlib.Core.List.{List, [], _∷_}
-use Prim.Native.Nat.{ℕ, zero, suc}
+use mathlib.Core.Bool.{Bool, cond}
+use Prim.Native.Nat.{ℕ, zero, suc, _+_}
 use lib.ListN.{length, replicate}
 
 -- the column with v in every place
@@ -17,3 +18,13 @@ tabulated f a (suc k) = f a ∷ tabulated f (suc a) k
 abbrev pub All : {A : Type 0} → (A → Type 0) → List A → Type 0
 All P [] = Unit {0}
 All P (x ∷ xs) = P x × All P xs
+
+-- f over a list in its order, from the value b on
+unfoldable pub folded : {A B : Type 0} → (B → A → B) → B → List A → B
+folded f b [] = b
+folded f b (a ∷ l) = folded f (f b a) l
+
+-- how many of a list pass a test
+unfoldable pub howMany : {A : Type 0} → (A → Bool) → List A → ℕ
+howMany p [] = 0
+howMany p (a ∷ l) = cond (p a) 1 0 + howMany p l

@@ -1,4 +1,5 @@
--- Walks over a range of whole numbers, as loops make them. A definition that states an order of operations is written with these.
+-- Walks over a range of whole numbers, as loops make them. A definition that states an order of operations is written
+-- with these.
 use Prim.Native.Nat.{ℕ, zero, suc, _-_}
 use mathlib.Core.Bool.{Bool, true, cond, _&&_}
 

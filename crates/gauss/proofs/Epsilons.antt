@@ -1,5 +1,5 @@
--- The tries: what each eps is, and that `while eps <= 1.0` makes nine of them. Closed facts, computed; and the loop's measure, how many
--- of the nine are not below eps.
+-- The tries: what each eps is, and that `while eps <= 1.0` makes nine of them. Closed facts, computed; and the loop's
+-- measure, how many of the nine are not below eps.
 use mathlib.Core.Path.{_≡_, refl, sym, ap, _∙_, subst}
 use mathlib.Core.List.{[], _∷_}
 use mathlib.Core.Logic.{_⊎_, inl, inr}

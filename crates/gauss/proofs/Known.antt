@@ -1,5 +1,5 @@
--- Document 01's known points on systems, and two pivot searches, computed from the definitions. A point of size 1 is stated of every system with
--- that entry, whatever stands past the size.
+-- Document 01's known points on systems, and two pivot searches, computed from the definitions. A point of size 1 is
+-- stated of every system with that entry, whatever stands past the size.
 use mathlib.Core.Path.{_≡_, refl, _∙_, subst}
 use mathlib.Core.List.{[], _∷_}
 use Prim.Native.Nat.{ℕ, _<_}
@@ -9,8 +9,8 @@ use lib.Ieee.{Float, nan, binary64, ofBits, neg, add, sub, mul, div, eq, le, lt,
 use Rattle.folds.specs.Walks.{steps, forRangeDown, first, every}
 use Rattle.columns.specs.declared.Refusal.the-variants.{OutOfRange, Unsolved}
 use Rattle.floats.specs.Constants.{f64One, f64Zero}
-use Rattle.gauss.specs.Elimination.{Vector, Matrix, entry, small, rowSubtracted, diagonalFilled, leftSolved, pivotRow, cleared, echeloned, divided, reduced, clearedAbove, backfilled}
-use Rattle.gauss.specs.Solutions.{blank, answered, joined, values, eliminated, attempt, epsilon, firstAnswer, solution}
+use Rattle.gauss.specs.Elimination.{Vector, Matrix, entry, small, rowSubtracted, diagonalFilled, leftSolved, pivotRow, clearedBelow, echeloned, rowDivided, reduced, clearedAbove, backfilled}
+use Rattle.gauss.specs.Solutions.{blank, solvedWith, joined, values, eliminated, attempt, epsilon, firstAnswer, solution}
 use Rattle.gauss.proofs.Meaning.{unread}
 
 -- 5.0
@@ -31,13 +31,13 @@ alone left right x y l r =
     only (λ i. entry left i j ≡ entry ((x ∷ []) ∷ []) i j) (only (λ j. entry left 0 j ≡ entry ((x ∷ []) ∷ []) 0 j) l j g) i h)
     (only (λ i. getD right i nan ≡ getD (y ∷ []) i nan) r)
 
-computed : (solution ((neg small ∷ []) ∷ []) (five ∷ []) 1 ≡ answered (five ∷ replicate 19 f64Zero))
+computed : (solution ((neg small ∷ []) ∷ []) (five ∷ []) 1 ≡ solvedWith (five ∷ replicate 19 f64Zero))
     × ((y : Float) → solution ((nan ∷ []) ∷ []) (y ∷ []) 1 ≡ blank Unsolved)
-unfolding solution firstAnswer attempt joined values eliminated epsilon diagonalFilled leftSolved echeloned pivotRow cleared reduced divided backfilled clearedAbove rowSubtracted steps forRangeDown first every neg add sub mul div eq le lt round ofBits
+unfolding solution firstAnswer attempt joined values eliminated epsilon diagonalFilled leftSolved echeloned pivotRow clearedBelow reduced rowDivided backfilled clearedAbove rowSubtracted steps forRangeDown first every neg add sub mul div eq le lt round ofBits
 computed = (refl, λ y. refl)
 
 -- "system [−1E-8], right side 5: answer 5, since the entry becomes 0"
-pub minus-small : (left : Matrix) (right : Vector) → entry left 0 0 ≡ neg small → getD right 0 nan ≡ five → solution left right 1 ≡ answered (five ∷ replicate 19 f64Zero)
+pub minus-small : (left : Matrix) (right : Vector) → entry left 0 0 ≡ neg small → getD right 0 nan ≡ five → solution left right 1 ≡ solvedWith (five ∷ replicate 19 f64Zero)
 minus-small left right l r = alone left right (neg small) five l r ∙ computed .0
 
 -- "system [NaN]: 7", whatever the right side

@@ -1,5 +1,5 @@
--- The tries of `solve`: the loop's invariant, with the number of the try that the code does not have, and what each way out of the loop
--- returns.
+-- The tries of `solve`: the loop's invariant, with the number of the try that the code does not have, and what
+-- each way out of the loop returns.
 use mathlib.Core.Path.{_≡_, refl, sym, ap, _∙_}
 use mathlib.Core.Bool.{Bool, true, false, cond}
 use Prim.Native.Nat.{ℕ, _+_, _≤_, _<_}
@@ -17,12 +17,12 @@ use Rattle.gauss.specs.declared.Solved.the-variants.{Answer, Refused}
 use Rattle.gauss.specs.declared.Solution.{Solution}
 use Rattle.floats.specs.Constants.{f64One}
 use Rattle.gauss.specs.Elimination.{Vector, Matrix, small, diagonalFilled, echeloned, reduced, backfilled, leftSolved}
-use Rattle.gauss.specs.Solutions.{joined, values, eliminated, blank, answered, attempt, ten, epsilon, tries, solves, firstAnswer, solution}
+use Rattle.gauss.specs.Solutions.{joined, values, eliminated, blank, solvedWith, attempt, ten, epsilon, tries, solves, firstAnswer, solution}
 use Rattle.gauss.proofs.Epsilons.{tried, untried, triesLeft, falls}
 
 isAnswer : Solved → Bool
 isAnswer Answer = true
-isAnswer (Refused reason) = false
+isAnswer (Refused refusal) = false
 
 -- ---- solve_inner: the stages, and the two returns
 
@@ -33,25 +33,25 @@ module _ (size : ℕ) (eps : Float) (m : Matrix) where
   stages f e r b = b ∙ ap (backfilled size) (r ∙ ap (reduced size) (e ∙ ap (echeloned size) f))
 
   attempt-is : (b : Bool) → leftSolved size (eliminated size eps m) ≡ b
-      → attempt size eps m ≡ cond b (answered (values size (eliminated size eps m))) (blank Unsolved)
+      → attempt size eps m ≡ cond b (solvedWith (values size (eliminated size eps m))) (blank Unsolved)
   unfolding attempt
-  attempt-is b e = ap (λ (b : Bool). cond b (answered (values size (eliminated size eps m))) (blank Unsolved)) e
+  attempt-is b e = ap (λ (b : Bool). cond b (solvedWith (values size (eliminated size eps m))) (blank Unsolved)) e
 
   pub attempt-answers : {t : Matrix} {b : Bool} {v : Vector} → t ≡ eliminated size eps m → b ≡ leftSolved size t → b ≡ true → v ≡ values size t
-      → answered v ≡ attempt size eps m
+      → solvedWith v ≡ attempt size eps m
   attempt-answers d s e v =
-      ap answered (v ∙ ap (values size) d) ∙ sym (attempt-is true (ap (leftSolved size) (sym d) ∙ sym s ∙ e))
+      ap solvedWith (v ∙ ap (values size) d) ∙ sym (attempt-is true (ap (leftSolved size) (sym d) ∙ sym s ∙ e))
 
   pub attempt-refuses : {t : Matrix} {b : Bool} {r : Solution} → t ≡ eliminated size eps m → b ≡ leftSolved size t → b ≡ false → r ≡ blank Unsolved
       → r ≡ attempt size eps m
   attempt-refuses d s e r = r ∙ sym (attempt-is false (ap (leftSolved size) (sym d) ∙ sym s ∙ e))
 
-  -- the answer of a try tells whether it solved the system
-  told : {r : Solution} → r ≡ attempt size eps m → leftSolved size (eliminated size eps m) ≡ isAnswer (r .answer)
+  -- the answer of a try says whether it solved the system
+  solved-is : {r : Solution} → r ≡ attempt size eps m → leftSolved size (eliminated size eps m) ≡ isAnswer (r .answer)
   unfolding attempt isAnswer
-  told e = go (leftSolved size (eliminated size eps m)) ∙ ap (λ (r : Solution). isAnswer (r .answer)) (sym e)
+  solved-is e = go (leftSolved size (eliminated size eps m)) ∙ ap (λ (r : Solution). isAnswer (r .answer)) (sym e)
     where
-      go : (b : Bool) → b ≡ isAnswer (cond b (answered (values size (eliminated size eps m))) (blank Unsolved) .answer)
+      go : (b : Bool) → b ≡ isAnswer (cond b (solvedWith (values size (eliminated size eps m))) (blank Unsolved) .answer)
       go true = refl
       go false = refl
 
@@ -61,28 +61,28 @@ module _ (size : ℕ) (eps : Float) (m : Matrix) where
 pub record Trying (size : ℕ) (m : Matrix) (eps : Float) : Type 0 where
   pub n : ℕ
   pub is : eps ≡ epsilon n
-  pub sought : Finding (solves size m) 0 n tries
+  pub finding : Finding (solves size m) 0 n tries
 
 pub trying-start : {size : ℕ} {m : Matrix} → Trying size m small
 unfolding epsilon
-trying-start = record { n = 0; is = refl; sought = finding-start (omega arith) }
+trying-start = record { n = 0; is = refl; finding = finding-start (omega arith) }
 
 module _ {size : ℕ} {m : Matrix} {eps : Float} (w : Trying size m eps) where
   -- this try's answer, said of its number
   solves-is : {r : Solution} → r ≡ attempt size eps m → solves size m (w .n) ≡ isAnswer (r .answer)
-  solves-is e = ap (λ (x : Float). leftSolved size (eliminated size x m)) (sym (w .is)) ∙ told size eps m e
+  solves-is e = ap (λ (x : Float). leftSolved size (eliminated size x m)) (sym (w .is)) ∙ solved-is size eps m e
 
   now-tried : le eps f64One ≡ true → w .n < tries
-  now-tried t = tried (w .n) (w .is) (w .sought .high) t
+  now-tried t = tried (w .n) (w .is) (w .finding .high) t
 
-  pub trying-step : {r : Solution} {reason : Refusal} → le eps f64One ≡ true → r ≡ attempt size eps m → r .answer ≡ Refused reason
+  pub trying-step : {r : Solution} {refusal : Refusal} → le eps f64One ≡ true → r ≡ attempt size eps m → r .answer ≡ Refused refusal
       → Trying size m (mul binary64 eps ten)
   unfolding epsilon isAnswer
   trying-step t e a =
       record {
         n = w .n + 1;
         is = ap (λ (x : Float). mul binary64 x ten) (w .is) ∙ ap epsilon (sym (add-one (w .n)));
-        sought = finding-step (w .sought) (now-tried t) (solves-is e ∙ ap isAnswer a);
+        finding = finding-step (w .finding) (now-tried t) (solves-is e ∙ ap isAnswer a);
       }
 
   pub trying-less : le eps f64One ≡ true → triesLeft (mul binary64 eps ten) < triesLeft eps
@@ -99,14 +99,14 @@ module _ {size : ℕ} {m : Matrix} {eps : Float} (w : Trying size m eps) where
   unfolding isAnswer
   trying-found t e a =
       let h = now-tried t in
-      e ∙ sym (first-is (finding-found (w .sought) h (solves-is e ∙ ap isAnswer a)) true (lt-ltb (w .n) tries h))
+      e ∙ sym (first-is (finding-found (w .finding) h (solves-is e ∙ ap isAnswer a)) true (lt-ltb (w .n) tries h))
 
   pub trying-none : {r : Solution} → le eps f64One ≡ false → r ≡ blank Unsolved → r ≡ firstAnswer size m
   trying-none t e =
       let h = untried (w .n) (w .is) t in
-      e ∙ sym (first-is (finding-none (w .sought) h) false (le-ltb (w .n) tries h))
+      e ∙ sym (first-is (finding-none (w .finding) h) false (le-ltb (w .n) tries h))
 
--- ---- the sizes
+-- ---- the question on the size
 
 module _ (left : Matrix) (right : Vector) (size : ℕ) where
   pub in-range : {r : Solution} {m : Matrix} → (size ≡ 0 → ⊥) → size ≤ 20 → m ≡ joined left right size → r ≡ firstAnswer size m → r ≡ solution left right size

@@ -1,18 +1,31 @@
-// Gauss-Jordan elimination, after sage's gauss.rs (document 01, module 2), with the Rust's names in the Rust's order and each helper after its
-// user. Inside, a system is a table of twenty rows of twenty-one numbers, the last of a row its right-hand number.
+// Gauss-Jordan elimination, after sage's gauss.rs (document 01, module 2), with the Rust's names in the Rust's order
+// and each helper after its user. Inside, a system is a table of twenty rows of twenty-one numbers, the last of a row
+// its right-hand number.
 ghost use mathlib.Core.Path.{_≡_};
 ghost use Prim.Native.Nat.{_≤_, _<_};
-ghost use Rattle.gauss.specs.Elimination.{swapped, diagonalFilled, leftSolved, solvedAt, echeloned, pivotRow, cleared, rowSubtracted, reduced, divided, backfilled, clearedAbove};
-ghost use Rattle.gauss.specs.Solutions.{attempt, values, blank, solution, joined};
+ghost use Rattle.gauss.specs.Elimination.{swapped, diagonalFilled, leftSolved, solvedAt, echeloned, pivotRow};
+ghost use Rattle.gauss.specs.Elimination.{rowSubtracted, clearedBelow, rowDivided, reduced};
+ghost use Rattle.gauss.specs.Elimination.{clearedAbove, backfilled};
+ghost use Rattle.gauss.specs.Solutions.{solvedNumber, blank, joined, values, attempt, solution};
 use columns::Refusal;
 
-// Whether a system was solved, or why not.
+// Whether a system is solved, or why not.
 pub enum Solved {
     Answer,
     Refused(Refusal),
 }
 
-// The numbers stand beside it: the answer, with 0 past the size, or twenty NaN.
+// 0 for an answer, else the question's number.
+pub fn solved_number(answer: Solved) -> u32
+    ensures { λ r. ⌜ r ≡ solvedNumber answer ⌝ }
+{
+    match answer {
+        Solved::Answer => 0,
+        Solved::Refused(refusal) => columns::number(refusal),
+    }
+}
+
+// That, and beside it twenty numbers: those of the answer, with 0 past the size, or NaN.
 pub struct Solution {
     pub answer: Solved,
     pub values: [f64; 20],
@@ -70,18 +83,19 @@ fn answers(m: &[[f64; 21]; 20], size: usize) -> [f64; 20]
 }
 
 // A refusal, with twenty NaN.
-fn refused(reason: Refusal) -> Solution
-    ensures { λ r. ⌜ r ≡ blank reason ⌝ }
+fn refused(refusal: Refusal) -> Solution
+    ensures { λ r. ⌜ r ≡ blank refusal ⌝ }
 {
     let values = [0.0 / 0.0; 20];
     Solution {
-        answer: Solved::Refused(reason),
+        answer: Solved::Refused(refusal),
         values,
     }
 }
 
-// The answer at the first eps that solves the system: 1E-8, then ten times the last, rounded, while it is at most 1; each try starts from the
-// system itself. Refused where the size is not 1 to 20, and where no eps solves it. Entries past the size are not read.
+// The answer at the first eps that solves the system: 1E-8, then ten times the last, rounded, while it is at most 1;
+// each try starts from the system itself. Entries past the size are not read. Question 3 is asked here: asked by a
+// function of its own, it made the compiler copy the table three times more.
 pub fn solve(left: [[f64; 20]; 20], right: [f64; 20], size: usize) -> Solution
     ensures { λ r. ⌜ r ≡ solution left right size ⌝ }
 {
@@ -172,7 +186,8 @@ fn echelon(mut m: [[f64; 21]; 20], size: usize) -> [[f64; 21]; 20]
     m
 }
 
-// The row with the largest entry of column k from row h down, the last among equals; row 0 where none is at least f64::MIN.
+// The row with the largest entry of column k from row h down, the last among equals; row 0 where none is at least
+// f64::MIN.
 fn pivot_row(m: &[[f64; 21]; 20], size: usize, h: usize, k: usize) -> usize
     requires { ⌜ (size ≤ 20) × (h < size) × (k < size) ⌝ }
     ensures { λ r. ⌜ (r ≡ pivotRow size h k (now (m .entry))) × (r < size) ⌝ }
@@ -198,7 +213,7 @@ fn pivot_row(m: &[[f64; 21]; 20], size: usize, h: usize, k: usize) -> usize
 // Clears column k below the pivot row h, which is copied once.
 fn clear_below(m: &mut [[f64; 21]; 20], size: usize, h: usize, k: usize)
     requires { ⌜ (size ≤ 20) × (h < size) × (k < size) ⌝ }
-    ensures { λ _. ⌜ now (m .exit) ≡ cleared size h k (now (m .entry)) ⌝ }
+    ensures { λ _. ⌜ now (m .exit) ≡ clearedBelow size h k (now (m .entry)) ⌝ }
 {
     let p = m[h];
     for i in h + 1..size {
@@ -242,7 +257,7 @@ fn reduce(mut m: [[f64; 21]; 20], size: usize) -> [[f64; 21]; 20]
 // Divides row i by x, from column j on, and its right-hand number.
 fn divide(m: &mut [[f64; 21]; 20], size: usize, i: usize, j: usize, x: f64)
     requires { ⌜ (size ≤ 20) × (i < 20) × (j ≤ size) ⌝ }
-    ensures { λ _. ⌜ now (m .exit) ≡ divided size i j x (now (m .entry)) ⌝ }
+    ensures { λ _. ⌜ now (m .exit) ≡ rowDivided size i j x (now (m .entry)) ⌝ }
 {
     for k in j..size {
         m[i][k] /= x;
@@ -269,7 +284,7 @@ fn backfill(mut m: [[f64; 21]; 20], size: usize) -> [[f64; 21]; 20]
     m
 }
 
-// Clears column j above row i: each row above is lessened from column 0 on.
+// Clears column j above row i: factor times row i is taken from each row above, from column 0 on.
 fn clear_above(m: &mut [[f64; 21]; 20], size: usize, i: usize, j: usize)
     requires { ⌜ (size ≤ 20) × (i < size) × (j < size) ⌝ }
     ensures { λ _. ⌜ now (m .exit) ≡ clearedAbove size i j (now (m .entry)) ⌝ }

@@ -1,13 +1,7 @@
 pub mod Questions
-pub mod Maps
-pub mod Counts
-pub mod Building
+pub mod Raising
 pub mod Scores
 pub mod Monotone
 pub mod Steps
-pub mod Signs
-pub mod Differences
-pub mod Zeros
 pub mod Estimates
-pub mod Logs
 pub mod Points

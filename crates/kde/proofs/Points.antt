@@ -1,10 +1,11 @@
--- Points that a reader can check by hand, by computation: document 01's known points of this module, the inputs where a sentence of it is not true
--- to the bit, and what the Rust's formulas give for no scores and for one bin.
+-- Points that a reader can check by hand, by computation: document 01's known points of this module, the inputs where a
+-- sentence of it is not true to the bit, and what the Rust's formulas give for no scores and for one bin.
 use mathlib.Core.Path.{_≡_, refl}
 use mathlib.Core.List.{List, [], _∷_}
 use mathlib.Core.Bool.{true, false}
 use lib.IntN.{pos, negsuc}
-use lib.Ieee.{Float, nan, inf, fin, binary64, ofBits, ofInt, toUnsigned, neg, add, sub, mul, div}
+use lib.Ieee.{Float, nan, inf, fin, ofBits, ofInt, toUnsigned, neg, add, sub, mul, div}
+use Rattle.floats.specs.Constants.{f64Max}
 use Rattle.floats.specs.MinMax.{minNumber, maxNumber}
 use Rattle.floats.specs.Convert.{converted}
 use Rattle.columns.specs.declared.Refusal.the-variants.{OutOfRange, NoTolerance}
@@ -42,17 +43,17 @@ pub minus-zero-lost : posteriorError unit (fin true 0 (pos 0) ∷ []) (fin false
 unfolding posteriorError toUnsigned ofInt add sub mul div
 minus-zero-lost = refl
 
--- ---- no scores: the least is f64::MAX and the step −infinity; one bin: the division by 0 gives an infinity, or a NaN for equal scores
+-- ---- no scores: the least is f64::MAX and the step −infinity; one bin: an infinity, or a NaN for equal scores
 
-pub no-scores : estimatorOf 1000 [] ≡ record { «min_score» = ofBits binary64 9218868437227405311; «score_step» = inf true }
+pub no-scores : estimatorOf 1000 [] ≡ estimator f64Max (inf true)
 unfolding estimatorOf ofBits neg sub div ofInt
 no-scores = refl
 
-pub one-bin : estimatorOf 1 (fin false 0 (pos 0) ∷ fin false 1 (pos 0) ∷ []) ≡ record { «min_score» = fin false 0 (pos 0); «score_step» = inf false }
+pub one-bin : estimatorOf 1 (fin false 0 (pos 0) ∷ fin false 1 (pos 0) ∷ []) ≡ estimator (fin false 0 (pos 0)) (inf false)
 unfolding estimatorOf minNumber maxNumber ofBits neg sub div ofInt
 one-bin = refl
 
-pub one-bin-one-score : estimatorOf 1 (fin false 1 (pos 0) ∷ []) ≡ record { «min_score» = fin false 1 (pos 0); «score_step» = nan }
+pub one-bin-one-score : estimatorOf 1 (fin false 1 (pos 0) ∷ []) ≡ estimator (fin false 1 (pos 0)) nan
 unfolding estimatorOf minNumber maxNumber ofBits neg sub div ofInt
 one-bin-one-score = refl
 

@@ -1,63 +1,73 @@
 -- What the questions' answers say of the numbers that were asked, for what the work after them requires.
-use mathlib.Core.Path.{_≡_, refl}
-use mathlib.Core.Bool.{Bool, true, false, _&&_, cond}
+use mathlib.Core.Path.{_≡_}
+use mathlib.Core.List.{List}
+use mathlib.Core.Bool.{Bool, true, _&&_}
 use Prim.Native.Nat.{ℕ, _≤_}
 use native.Mathlib.Omega.{arith}
-use lib.Dec.{T, leb, leb→le}
-use lib.Ieee.Fits.{and-l, and-r}
-use Rattle.columns.specs.Refusals.{longest, ifAccepted}
-use Rattle.columns.specs.declared.Refusal.{Refusal}
+use borrow.Author.Tests.{eqb-true}
+use lib.Dec.{leb, eqb, leb→le}
+use lib.ListN.{length}
+use lib.Ieee.{Float}
+use Rattle.folds.proofs.Tests.{both}
+use Rattle.columns.specs.Refusals.{longest, ifNot}
 use Rattle.columns.specs.declared.Refusal.the-variants.{TooLong, WrongLength, OutOfRange}
-use Rattle.columns.specs.declared.Outcome.{Outcome}
-use Rattle.columns.specs.declared.Outcome.the-variants.{Accepted, Refused}
-use Rattle.kde.specs.Answers.{inRange, lengthsAsked, after, asked}
+use Rattle.columns.specs.declared.Outcome.the-variants.{Accepted}
+use Rattle.columns.proofs.Questions.{met}
+use Rattle.kde.specs.declared.Builder.{Builder}
+use Rattle.kde.specs.Bins.{inRange, binScoresAsked, binsAsked}
+use Rattle.kde.specs.Estimate.{errorsAsked}
+use Rattle.kde.specs.LogErrors.{logErrorsAsked}
+use Rattle.kde.specs.Inner.InBounds.{InBounds}
 
-pub record InRange (bins : ℕ) : Type 0 where
-  pub some : 1 ≤ bins
-  pub few : bins ≤ 65536
-
-pub in-range : (bins : ℕ) → inRange bins ≡ true → InRange bins
+pub in-range : (bins : ℕ) → inRange bins ≡ true → (1 ≤ bins) × (bins ≤ 65536)
 in-range bins e =
-    let t : T (leb 1 bins && leb bins 65536) = rw e tt in
-    record { some = leb→le 1 bins (and-l (leb 1 bins) (leb bins 65536) t); few = leb→le bins 65536 (and-r (leb 1 bins) (leb bins 65536) t) }
+    let k = both (leb 1 bins) (leb bins 65536) e in
+    (leb→le 1 bins (rw (k .0) tt), leb→le bins 65536 (rw (k .1) tt))
 
-pub record Passed (rows : ℕ) (fitting : Bool) : Type 0 where
-  pub short : rows ≤ longest
-  pub fitting-is : fitting ≡ true
+-- questions 1, 2 and 3, of a list, of lengths that match or not, and of a bin count
+record Passed (rows : ℕ) (match : Bool) (bins : ℕ) : Type 0 where
+  short : rows ≤ longest
+  matches : match ≡ true
+  range : (1 ≤ bins) × (bins ≤ 65536)
 
-never : {A : Type 0} {r : Refusal} → Refused r ≡ Accepted → A
-never e = let z : _≡_ {A = ℕ} 0 1 = cc in absurd (omega arith)
+passed : (rows : ℕ) (match : Bool) (bins : ℕ)
+    → ifNot (leb rows longest) TooLong (ifNot match WrongLength (ifNot (inRange bins) OutOfRange Accepted)) ≡ Accepted → Passed rows match bins
+passed rows match bins e =
+    let one = met (leb rows longest) TooLong _ e in
+    let two = met match WrongLength _ (one .1) in
+    let three = met (inRange bins) OutOfRange Accepted (two .1) in
+    record { short = leb→le rows longest (rw (one .0) tt); matches = two .0; range = in-range bins (three .0) }
 
-pub lengths-passed : (rows : ℕ) (fitting : Bool) → lengthsAsked rows fitting ≡ Accepted → Passed rows fitting
-unfolding lengthsAsked
-lengths-passed rows fitting e = go (leb rows longest) fitting refl e
-  where
-    go : (a b : Bool) → leb rows longest ≡ a → cond a (cond b Accepted (Refused WrongLength)) (Refused TooLong) ≡ Accepted → Passed rows b
-    go true true h e = record { short = leb→le rows longest (rw h tt); fitting-is = refl }
-    go true false h e = never e
-    go false b h e = never e
+pub bin-scores-passed : (bins scores column : ℕ) → binScoresAsked bins scores column ≡ Accepted → ((1 ≤ bins) × (bins ≤ 65536)) × (column ≡ bins)
+bin-scores-passed bins scores column e =
+    let p = passed scores (eqb column bins) bins e in
+    (p .range, eqb-true column bins (p .matches))
 
-pub asked-lengths : (rows : ℕ) (fitting : Bool) (bins : ℕ) → asked rows fitting bins ≡ Accepted → Passed rows fitting
-unfolding asked
-asked-lengths rows fitting bins e = go (lengthsAsked rows fitting) (lengths-passed rows fitting) e
-  where
-    go : (o : Outcome) → (o ≡ Accepted → Passed rows fitting) → after o (cond (inRange bins) Accepted (Refused OutOfRange)) ≡ Accepted → Passed rows fitting
-    go Accepted h e = h refl
-    go (Refused r) h e = never e
+pub errors-passed : (bins scores errors : ℕ) → errorsAsked bins scores errors ≡ Accepted → ((1 ≤ bins) × (bins ≤ 65536)) × (errors ≡ scores)
+errors-passed bins scores errors e =
+    let p = passed scores (eqb errors scores) bins e in
+    (p .range, eqb-true errors scores (p .matches))
 
-pub asked-range : (rows : ℕ) (fitting : Bool) (bins : ℕ) → asked rows fitting bins ≡ Accepted → InRange bins
-unfolding asked
-asked-range rows fitting bins e = go (lengthsAsked rows fitting) (inRange bins) refl e
-  where
-    go : (o : Outcome) (b : Bool) → inRange bins ≡ b → after o (cond b Accepted (Refused OutOfRange)) ≡ Accepted → InRange bins
-    go Accepted true h e = in-range bins h
-    go Accepted false h e = never e
-    go (Refused r) b h e = never e
+pub log-errors-passed : (logs errors : ℕ) → logErrorsAsked logs errors ≡ Accepted → errors ≡ logs
+log-errors-passed logs errors e =
+    let one = met (leb logs longest) TooLong _ e in
+    eqb-true errors logs (met (eqb errors logs) WrongLength Accepted (one .1) .0)
 
--- ---- what the answer picks
-
-pub given-refused : {A : Type 0} {o : Outcome} {r : Refusal} (x y : A) → o ≡ Refused r → y ≡ ifAccepted o x y
-given-refused x y e = rw e
-
-pub given-accepted : {A : Type 0} {o : Outcome} (x y : A) → o ≡ Accepted → x ≡ ifAccepted o x y
-given-accepted x y e = rw e
+-- of a builder and three columns, with counts of the list
+module _ (builder : Builder) (listed decoys total : ℕ) (decoyDensity targetDensity bins : List Float) where
+  pub bins-passed : binsAsked (builder .bins) listed (length decoyDensity) (length targetDensity) (length bins) ≡ Accepted → decoys ≤ total → total ≤ listed
+      → InBounds builder decoys total decoyDensity targetDensity bins
+  bins-passed e h k =
+      let n = builder .bins in
+      let p = passed listed (eqb (length decoyDensity) n && eqb (length targetDensity) n && eqb (length bins) n) n e in
+      let short = p .short in
+      let three = both (eqb (length decoyDensity) n && eqb (length targetDensity) n) (eqb (length bins) n) (p .matches) in
+      let two = both (eqb (length decoyDensity) n) (eqb (length targetDensity) n) (three .0) in
+      record {
+        some = p .range .0;
+        decoy-length = eqb-true (length decoyDensity) n (two .0);
+        target-length = eqb-true (length targetDensity) n (two .1);
+        bins-length = eqb-true (length bins) n (three .1);
+        decoys-few = h;
+        total-few = omega arith;
+      }

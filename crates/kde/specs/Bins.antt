@@ -1,37 +1,35 @@
--- From scores to bins. Document 01, module 4: "The port gives least score, step, and the score of every bin; the host returns two density
--- columns taken at those scores; the port makes bins as decoy / (target + decoy), with pi as in the Rust."
-use mathlib.Core.Bool.{Bool, true, false, cond, _&&_}
+-- From scores to bins. Document 01, module 4: "The port gives least score, step, and the score of every bin; the host
+-- returns two density columns taken at those scores; the port makes bins as decoy / (target + decoy), with pi as in the
+-- Rust."
+use mathlib.Core.Bool.{Bool, true, cond, _&&_}
 use mathlib.Core.List.{List, [], _∷_}
-use mathlib.Core.Path.{_≡_}
-use Prim.Native.Nat.{ℕ, _+_, _-_, _≤_}
-use lib.Dec.{eqb}
+use Prim.Native.Nat.{ℕ, _+_, _-_}
+use lib.Dec.{leb, eqb}
 use lib.IntN.{ℤ, pos}
 use lib.ListN.{length, getD}
-use lib.Ieee.{Float, nan, fin, binary64, ofInt, add, sub, mul, div}
-use Rattle.floats.specs.Constants.{f64Max, f64Min}
-use Rattle.folds.specs.Lists.{filled, tabulated}
-use Rattle.columns.specs.Refusals.{longest, ifAccepted}
-use Rattle.counting.specs.Labels.{decoys}
+use lib.Ieee.{Float, nan, binary64, ofInt, add, sub, mul, div}
+use Rattle.floats.specs.Constants.{f64One, f64Max, f64Min}
 use Rattle.floats.specs.MinMax.{minNumber, maxNumber}
+use Rattle.folds.specs.Lists.{filled, tabulated, folded, howMany}
+use Rattle.columns.specs.Refusals.{numberOf, longest, ifNot, answered}
+use Rattle.columns.specs.declared.Refusal.the-variants.{TooLong, WrongLength, OutOfRange}
 use Rattle.columns.specs.declared.Outcome.{Outcome}
 use Rattle.columns.specs.declared.Outcome.the-variants.{Accepted, Refused}
+use Rattle.counting.specs.Labels.{decoys}
 use Rattle.kde.specs.declared.Estimator.{Estimator}
 use Rattle.kde.specs.declared.Builder.{Builder}
 use Rattle.kde.specs.declared.Built.{Built}
 use Rattle.kde.specs.declared.Built.the-variants as built
-use Rattle.kde.specs.Answers.{asked}
 
--- ---- "Builder settings are a flag and a bin count, starting at monotonic and 1000."
-
+-- "Builder settings are a flag and a bin count, starting at monotonic and 1000."
 abbrev pub freshBuilder : Builder
 freshBuilder = record { monotonic = true; bins = 1000 }
 
--- ---- step one: the scores of the bins
+-- Question 3: "the bin count 1 to 65,536"
+abbrev pub inRange : ℕ → Bool
+inRange bins = leb 1 bins && leb bins 65536
 
--- f over a list in its order, from the value b on
-unfoldable pub folded : {A B : Type 0} → (B → A → B) → B → List A → B
-folded f b [] = b
-folded f b (a ∷ l) = folded f (f b a) l
+-- ---- step one: "least score, step, and the score of every bin"
 
 -- "min and max that ignore a NaN", the accumulated one first, from f64::MAX and f64::MIN on
 abbrev pub leastScore : List Float → Float
@@ -44,7 +42,7 @@ greatestScore scores = folded maxNumber f64Min scores
 abbrev pub estimator : Float → Float → Estimator
 estimator least step = record { «min_score» = least; «score_step» = step }
 
--- the least score, and the step between so many bins
+-- the least score, and the step from bin to bin
 unfoldable pub estimatorOf : ℕ → List Float → Estimator
 unfolding folded
 estimatorOf bins scores =
@@ -55,104 +53,99 @@ estimatorOf bins scores =
 abbrev pub binScore : Estimator → ℕ → Float
 binScore e bin = add binary64 (mul binary64 (ofInt binary64 (pos bin)) (e .«score_step»)) (e .«min_score»)
 
--- The call: an answer, for a column of n places, and the column afterwards
-abbrev pub scoresAsked : Builder → List Float → ℕ → Outcome
-scoresAsked builder scores n = asked (length scores) (eqb n (builder .bins)) (builder .bins)
+-- "A refusal returns its number"; "Floats returned by value are then NaN"
+abbrev pub builtNumber : Built → ℕ
+builtNumber (built.Made e) = 0
+builtNumber (built.Refused r) = numberOf r
 
-abbrev pub builtBy : Outcome → Estimator → Built
-builtBy Accepted e = built.Made e
-builtBy (Refused r) e = built.Refused r
+abbrev pub builtEstimator : Built → Estimator
+builtEstimator (built.Made e) = e
+builtEstimator (built.Refused r) = estimator nan nan
 
-unfoldable pub binScoresAnswer : Builder → List Float → ℕ → Built
-unfolding asked estimatorOf
-binScoresAnswer builder scores n = builtBy (scoresAsked builder scores n) (estimatorOf (builder .bins) scores)
+-- what the call answers, and the column of bin scores afterwards
+pub record BinScoresRun : Type 0 where
+  pub answer : Built
+  pub binScores : List Float
 
-unfoldable pub binScoresColumn : Builder → List Float → List Float → List Float
-unfolding asked estimatorOf
-binScoresColumn builder scores column =
-    ifAccepted (scoresAsked builder scores (length column))
-    (tabulated (binScore (estimatorOf (builder .bins) scores)) 0 (builder .bins))
-    (filled nan column)
+abbrev pub binScoresRun : Built → List Float → BinScoresRun
+binScoresRun answer binScores = record { answer = answer; binScores = binScores }
 
--- ---- step two: the bins
+-- questions 1, 2 and 3, of a bin count, a list of scores and a column of bin scores
+abbrev pub binScoresAsked : ℕ → ℕ → ℕ → Outcome
+binScoresAsked bins scores column =
+    ifNot (leb scores longest) TooLong (ifNot (eqb column bins) WrongLength (ifNot (inRange bins) OutOfRange Accepted))
 
--- how many of a list pass a test
-unfoldable pub howMany : {A : Type 0} → (A → Bool) → List A → ℕ
-howMany p [] = 0
-howMany p (a ∷ l) = cond (p a) 1 0 + howMany p l
+-- the estimator, and the score of every bin; a refusal leaves NaN in every place
+unfoldable pub binScoresOf : Builder → List Float → List Float → BinScoresRun
+binScoresOf builder scores column =
+    let e = estimatorOf (builder .bins) scores in
+    answered (binScoresAsked (builder .bins) (length scores) (length column))
+    (binScoresRun (built.Made e) (tabulated (binScore e) 0 (builder .bins)))
+    (λ r. binScoresRun (built.Refused r) (filled nan column))
 
--- the share of decoys, pi
+-- ---- step two: "bins as decoy / (target + decoy)"
+
+-- pi: the decoys over all that take part
 abbrev pub decoyShare : ℕ → ℕ → Float
-decoyShare decoys part = div binary64 (ofInt binary64 (pos decoys)) (ofInt binary64 (pos part))
+decoyShare decoys total = div binary64 (ofInt binary64 (pos decoys)) (ofInt binary64 (pos total))
 
--- decoy / (target + decoy)
-abbrev pub posteriorBin : Float → Float → Float → Float
-posteriorBin pi decoyDensity targetDensity =
-    let decoy = mul binary64 decoyDensity pi in
-    let target = mul binary64 targetDensity (sub binary64 (fin false 1 (pos 0)) pi) in
+-- a bin, by its number, from both densities there
+abbrev pub posteriorBin : Float → List Float → List Float → ℕ → Float
+posteriorBin pi decoyDensity targetDensity bin =
+    let decoy = mul binary64 (getD decoyDensity bin nan) pi in
+    let target = mul binary64 (getD targetDensity bin nan) (sub binary64 f64One pi) in
     div binary64 decoy (add binary64 target decoy)
 
--- the bin of a number, from both densities there
-abbrev pub binAt : Float → List Float → List Float → ℕ → Float
-binAt pi decoyDensity targetDensity bin = posteriorBin pi (getD decoyDensity bin nan) (getD targetDensity bin nan)
+-- the greatest of the bins and a value, the accumulated one first, from the last bin down
+unfoldable pub maximumFrom : Float → List Float → Float
+maximumFrom start [] = start
+maximumFrom start (b ∷ bins) = maxNumber (maximumFrom start bins) b
 
-unfoldable pub mixed : Float → List Float → List Float → ℕ → List Float
-unfolding tabulated
-mixed pi decoyDensity targetDensity bins = tabulated (binAt pi decoyDensity targetDensity) 0 bins
-
--- "Monotonic bins take the running maximum from the last bin down", which starts from the value given
+-- "Monotonic bins take the running maximum from the last bin down"
 unfoldable pub raisedFrom : Float → List Float → List Float
-unfolding maxNumber
 raisedFrom start [] = []
-raisedFrom start (b ∷ bins) =
-    let later = raisedFrom start bins in
-    maxNumber (getD later 0 start) b ∷ later
+raisedFrom start (b ∷ bins) = maximumFrom start (b ∷ bins) ∷ raisedFrom start bins
 
--- from the last bin's own value
+-- from the last bin's own value on
 unfoldable pub raised : List Float → List Float
-unfolding raisedFrom
 raised bins = raisedFrom (getD bins (length bins - 1) nan) bins
 
 -- the bins, raised where the builder is monotonic
 unfoldable pub binsOf : Builder → ℕ → ℕ → List Float → List Float → List Float
-unfolding mixed raised
-binsOf builder decoys part decoyDensity targetDensity =
-    let bins = mixed (decoyShare decoys part) decoyDensity targetDensity (builder .bins) in
+binsOf builder decoys total decoyDensity targetDensity =
+    let bins = tabulated (posteriorBin (decoyShare decoys total) decoyDensity targetDensity) 0 (builder .bins) in
     cond (builder .monotonic) (raised bins) bins
 
--- what the questions leave: three columns of the builder's bins, 1 to 65,536, and counts up to the longest list's
-pub record Ready (builder : Builder) (decoys part : ℕ) (decoyDensity targetDensity column : List Float) : Type 0 where
-  pub some : 1 ≤ builder .bins
-  pub few : builder .bins ≤ 65536
-  pub decoy-places : length decoyDensity ≡ builder .bins
-  pub target-places : length targetDensity ≡ builder .bins
-  pub places : length column ≡ builder .bins
-  pub decoys-few : decoys ≤ longest
-  pub part-few : part ≤ longest
+-- what a call answers, and the column of bins afterwards
+pub record BinsRun : Type 0 where
+  pub answer : Outcome
+  pub bins : List Float
 
--- What the two calls below share: the answer, for a list of so many rows or slots and three columns of so many places, and the column
--- afterwards, for so many decoys among those that take part
-unfoldable pub binsAsked : Builder → ℕ → ℕ → ℕ → ℕ → Outcome
-unfolding asked
-binsAsked builder listed decoyPlaces targetPlaces places =
-    asked listed (eqb decoyPlaces (builder .bins) && eqb targetPlaces (builder .bins) && eqb places (builder .bins)) (builder .bins)
+abbrev pub binsRun : Outcome → List Float → BinsRun
+binsRun answer bins = record { answer = answer; bins = bins }
 
-unfoldable pub binsWritten : Builder → ℕ → ℕ → ℕ → List Float → List Float → List Float → List Float
-unfolding binsAsked binsOf
-binsWritten builder listed decoys part decoyDensity targetDensity column =
-    ifAccepted (binsAsked builder listed (length decoyDensity) (length targetDensity) (length column))
-    (binsOf builder decoys part decoyDensity targetDensity)
-    (filled nan column)
+-- questions 1, 2 and 3, of a bin count, a list of rows or slots, two densities and a column of bins
+abbrev pub binsAsked : ℕ → ℕ → ℕ → ℕ → ℕ → Outcome
+binsAsked bins listed decoyDensity targetDensity column =
+    ifNot (leb listed longest) TooLong
+    (ifNot (eqb decoyDensity bins && eqb targetDensity bins && eqb column bins) WrongLength
+    (ifNot (inRange bins) OutOfRange Accepted))
+
+-- the bins, for a list's number of decoys and of all that take part; a refusal leaves NaN in every place
+unfoldable pub builtBins : Builder → ℕ → ℕ → ℕ → List Float → List Float → List Float → BinsRun
+builtBins builder listed decoys total decoyDensity targetDensity column =
+    answered (binsAsked (builder .bins) listed (length decoyDensity) (length targetDensity) (length column))
+    (binsRun Accepted (binsOf builder decoys total decoyDensity targetDensity))
+    (λ r. binsRun (Refused r) (filled nan column))
 
 -- Over labels every row takes part.
-unfoldable pub labelBins : Builder → List ℤ → List Float → List Float → List Float → List Float
-unfolding binsWritten decoys
-labelBins builder labels = binsWritten builder (length labels) (decoys labels) (length labels)
+unfoldable pub labelBins : Builder → List ℤ → List Float → List Float → List Float → BinsRun
+labelBins builder labels = builtBins builder (length labels) (decoys labels) (length labels)
 
--- Over a competition's is_decoy, "1 or 0, a 32-bit number", the slots that hold neither, as an unseen slot does, take no part.
-unfoldable pub slotBins : Builder → List ℕ → List Float → List Float → List Float → List Float
-unfolding binsWritten howMany
+-- Over a competition's is_decoy, "1 or 0, a 32-bit number", a slot that holds neither, as an unseen one does, takes no
+-- part.
+unfoldable pub slotBins : Builder → List ℕ → List Float → List Float → List Float → BinsRun
 slotBins builder flags =
     let decoys = howMany (λ (n : ℕ). eqb n 1) flags in
     let targets = howMany (λ (n : ℕ). eqb n 0) flags in
-    binsWritten builder (length flags) decoys (decoys + targets)
+    builtBins builder (length flags) decoys (decoys + targets)

@@ -1,26 +1,27 @@
--- The posterior error of a score, in the order of operations of the Rust's Estimator::posterior_error. Document 01, module 4: "An estimator
--- is the bin column with its least score and its step."
+-- The posterior error of a score, in the order of operations of the Rust's Estimator::posterior_error. Document 01,
+-- module 4: "An estimator is the bin column with its least score and its step."
 use mathlib.Core.List.{List, map}
 use mathlib.Core.Bool.{cond}
 use Prim.Native.Nat.{ℕ, _+_, _-_, min}
-use lib.Dec.{eqb}
+use lib.Dec.{leb, eqb}
 use lib.ListN.{length, getD}
 use lib.Ieee.{Float, nan, binary64, toUnsigned, add, sub, mul, div}
-use Rattle.columns.specs.Refusals.{ifAccepted}
 use Rattle.folds.specs.Lists.{filled}
 use Rattle.floats.specs.Whole.{floored}
-use Rattle.columns.specs.declared.Refusal.the-variants.{OutOfRange}
+use Rattle.columns.specs.Refusals.{numberOf, longest, ifNot, answered}
+use Rattle.columns.specs.declared.Refusal.the-variants.{TooLong, WrongLength, OutOfRange}
 use Rattle.columns.specs.declared.Outcome.{Outcome}
+use Rattle.columns.specs.declared.Outcome.the-variants.{Accepted, Refused}
 use Rattle.kde.specs.declared.Estimator.{Estimator}
 use Rattle.kde.specs.declared.Posterior.{Posterior}
-use Rattle.kde.specs.declared.Posterior.the-variants.{Error, Refused}
-use Rattle.kde.specs.Answers.{inRange, asked}
-use Rattle.kde.specs.Bins.{binScore}
+use Rattle.kde.specs.declared.Posterior.the-variants as posterior
+use Rattle.kde.specs.Bins.{inRange, binScore}
 
 -- how many whole steps a score lies above the least, as Rust's floor() and `as usize` have it
 unfoldable pub stepsUp : Estimator → Float → ℕ
 unfolding floored
-stepsUp e score = toUnsigned 64 (floored binary64 (div binary64 (sub binary64 score (e .«min_score»)) (e .«score_step»)))
+stepsUp e score =
+    toUnsigned 64 (floored binary64 (div binary64 (sub binary64 score (e .«min_score»)) (e .«score_step»)))
 
 -- how far the score lies from a bin's score towards the next, in steps
 abbrev pub factor : Estimator → Float → ℕ → Float
@@ -39,17 +40,37 @@ posteriorError e bins score =
     let high = min last (low + 1) in
     interpolated (getD bins low nan) (getD bins high nan) (factor e score low)
 
--- The call for one score. "the bin count 1 to 65,536"
+-- the call for one score: "the bin count 1 to 65,536"
 unfoldable pub posteriorAnswer : Estimator → List Float → Float → Posterior
-unfolding posteriorError
-posteriorAnswer e bins score = cond (inRange (length bins)) (Error (posteriorError e bins score)) (Refused OutOfRange)
+posteriorAnswer e bins score =
+    cond (inRange (length bins)) (posterior.Error (posteriorError e bins score)) (posterior.Refused OutOfRange)
 
--- The call for a column of scores: the answer, for a column of n places, and the column afterwards
-unfoldable pub errorsAnswer : List Float → List Float → ℕ → Outcome
-unfolding asked
-errorsAnswer bins scores n = asked (length scores) (eqb n (length scores)) (length bins)
+-- "A refusal returns its number"; "Floats returned by value are then NaN"
+abbrev pub posteriorNumber : Posterior → ℕ
+posteriorNumber (posterior.Error x) = 0
+posteriorNumber (posterior.Refused r) = numberOf r
 
-unfoldable pub errorsColumn : Estimator → List Float → List Float → List Float → List Float
-unfolding errorsAnswer posteriorError
-errorsColumn e bins scores column =
-    ifAccepted (errorsAnswer bins scores (length column)) (map (posteriorError e bins) scores) (filled nan column)
+abbrev pub posteriorValue : Posterior → Float
+posteriorValue (posterior.Error x) = x
+posteriorValue (posterior.Refused r) = nan
+
+-- what a call for a column answers, and the column of errors afterwards
+pub record ErrorsRun : Type 0 where
+  pub answer : Outcome
+  pub errors : List Float
+
+abbrev pub errorsRun : Outcome → List Float → ErrorsRun
+errorsRun answer errors = record { answer = answer; errors = errors }
+
+-- questions 1, 2 and 3, of a bin column, a list of scores and a column of errors
+abbrev pub errorsAsked : ℕ → ℕ → ℕ → Outcome
+errorsAsked bins scores errors =
+    ifNot (leb scores longest) TooLong
+    (ifNot (eqb errors scores) WrongLength (ifNot (inRange bins) OutOfRange Accepted))
+
+-- the posterior error of every score; a refusal leaves NaN in every place
+unfoldable pub posteriorErrors : Estimator → List Float → List Float → List Float → ErrorsRun
+posteriorErrors e bins scores column =
+    answered (errorsAsked (length bins) (length scores) (length column))
+    (errorsRun Accepted (map (posteriorError e bins) scores))
+    (λ r. errorsRun (Refused r) (filled nan column))

@@ -1,5 +1,5 @@
-pub mod Answers
 pub mod Bins
 pub mod Estimate
 pub mod Tolerances
 pub mod LogErrors
+pub mod Inner

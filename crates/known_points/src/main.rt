@@ -1,7 +1,9 @@
-// Runs document 01's known points, marked or not, and prints one line a point; `stdout` holds what the document says. Floats are printed by their bits.
+// Runs document 01's known points, marked or not, and prints one line a point; `stdout` holds what the document says.
+// Floats are printed by their bits.
 use columns::Counted;
 use columns::Outcome;
 use fdr::Names;
+use fdr::Settings;
 use gauss::Solved;
 use kde::BinCount;
 use kde::Estimator;
@@ -36,7 +38,7 @@ fn double(x: f64) {
 }
 
 // The count, or the number of the refusal.
-fn told_count(answer: Counted) {
+fn print_count(answer: Counted) {
     match answer {
         Counted::Passing(count) => {
             text(b" count");
@@ -49,7 +51,7 @@ fn told_count(answer: Counted) {
     }
 }
 
-fn told_line(answer: Line) {
+fn print_line(answer: Line) {
     match answer {
         Line::Right(c) => {
             text(b" right");
@@ -80,7 +82,7 @@ fn count_bits(column: &[f32], bits: u32) -> usize {
     count
 }
 
-fn told_refusal(number_of: u32) {
+fn print_refusal(number_of: u32) {
     text(b" refused");
     number_32(number_of);
 }
@@ -89,16 +91,16 @@ fn told_refusal(number_of: u32) {
 fn no_rows() {
     let mut q = [0.0f32; 0];
     text(b"no rows:");
-    told_count(qvalue::spectrum_q_value(&[0i32; 0], &mut q));
+    print_count(qvalue::spectrum_q_value(&[0i32; 0], &mut q));
     text(b", line 0");
-    told_line(line_check::check_line(&[0i32; 0], 0, Rate::OneIn100));
+    print_line(line_check::check_line(&[0i32; 0], 0, Rate::OneIn100));
 }
 
 // "one decoy: q 1.0"
 fn one_decoy() {
     let mut q = [0.0f32; 1];
     text(b"one decoy:");
-    told_count(qvalue::spectrum_q_value(&[-1i32], &mut q));
+    print_count(qvalue::spectrum_q_value(&[-1i32], &mut q));
     text(b", q");
     single(q[0]);
     text(b"\n");
@@ -108,7 +110,7 @@ fn one_decoy() {
 fn target_decoy_target() {
     let mut q = [0.0f32; 3];
     text(b"target, decoy, target:");
-    told_count(qvalue::spectrum_q_value(&[1i32, -1, 1], &mut q));
+    print_count(qvalue::spectrum_q_value(&[1i32, -1, 1], &mut q));
     text(b", q");
     single(q[0]);
     single(q[1]);
@@ -119,7 +121,7 @@ fn target_decoy_target() {
 // "Labels 0 and 7 are targets."
 fn labels_0_and_7() {
     text(b"labels 0 and 7, line 2:");
-    told_line(line_check::check_line(&[0i32, 7], 2, Rate::OneIn100));
+    print_line(line_check::check_line(&[0i32, 7], 2, Rate::OneIn100));
 }
 
 // "100 targets, one decoy: q 0.01 a hundred times, then 0.02 (as f32); count 100, line 100."
@@ -128,13 +130,13 @@ fn targets_100() {
     labels[100] = -1;
     let mut q = [0.0f32; 101];
     text(b"100 targets, one decoy:");
-    told_count(qvalue::spectrum_q_value(&labels, &mut q));
+    print_count(qvalue::spectrum_q_value(&labels, &mut q));
     text(b", q 0.01");
     number(count_bits(&q, 0x3c23_d70a));
     text(b" times, then");
     single(q[100]);
     text(b", line 100");
-    told_line(line_check::check_line(&labels, 100, Rate::OneIn100));
+    print_line(line_check::check_line(&labels, 100, Rate::OneIn100));
 }
 
 // "99 targets, one decoy: count 0."
@@ -143,7 +145,7 @@ fn targets_99() {
     labels[99] = -1;
     let mut q = [0.0f32; 100];
     text(b"99 targets, one decoy:");
-    told_count(qvalue::spectrum_q_value(&labels, &mut q));
+    print_count(qvalue::spectrum_q_value(&labels, &mut q));
     text(b"\n");
 }
 
@@ -153,7 +155,7 @@ fn targets_200() {
     labels[200] = -1;
     let mut q = [0.0f32; 201];
     text(b"200 targets, one decoy:");
-    told_count(qvalue::spectrum_q_value(&labels, &mut q));
+    print_count(qvalue::spectrum_q_value(&labels, &mut q));
     text(b", last");
     single(q[200]);
     text(b"\n");
@@ -164,7 +166,7 @@ fn targets_20() {
     let mut labels = [1i32; 21];
     labels[20] = -1;
     text(b"20 targets, one decoy, line 20 at one in 20:");
-    told_line(line_check::check_line(&labels, 20, Rate::OneIn20));
+    print_line(line_check::check_line(&labels, 20, Rate::OneIn20));
 }
 
 // "19 targets: line 0."
@@ -172,7 +174,7 @@ fn targets_19() {
     let mut labels = [1i32; 20];
     labels[19] = -1;
     text(b"19 targets, one decoy, line 0 at one in 20:");
-    told_line(line_check::check_line(&labels, 0, Rate::OneIn20));
+    print_line(line_check::check_line(&labels, 0, Rate::OneIn20));
 }
 
 // "40 targets, one decoy: line 41, 40 targets."
@@ -180,7 +182,26 @@ fn targets_40() {
     let mut labels = [1i32; 41];
     labels[40] = -1;
     text(b"40 targets, one decoy, line 41 at one in 20:");
-    told_line(line_check::check_line(&labels, 41, Rate::OneIn20));
+    print_line(line_check::check_line(&labels, 41, Rate::OneIn20));
+}
+
+// The row at each rank: the greatest score first, equal scores in list order.
+fn order_of_four() {
+    let mut keys = [9u64; 4];
+    let mut spare = [9u64; 4];
+    let mut order = [9u32; 4];
+    text(b"scores 1, 3, 2 and 3 as ranked:");
+    print_outcome(precursor::precursor_order(
+        &[1.0f64, 3.0, 2.0, 3.0],
+        &mut keys,
+        &mut spare,
+        &mut order,
+    ));
+    number_32(order[0]);
+    number_32(order[1]);
+    number_32(order[2]);
+    number_32(order[3]);
+    text(b"\n");
 }
 
 // A precursor list in any order: the decoy has the least score.
@@ -193,7 +214,7 @@ fn precursors_20() {
     let mut spare = [9u64; 21];
     let mut q = [0.0f32; 21];
     text(b"20 targets, one decoy, as precursors:");
-    told_count(precursor::picked_precursor(&labels, &scores, &mut keys, &mut spare, &mut q));
+    print_count(precursor::picked_precursor(&labels, &scores, &mut keys, &mut spare, &mut q));
     text(b", q 0.05");
     number(count_bits(&q, 0x3d4c_cccd));
     text(b" times, first");
@@ -201,14 +222,14 @@ fn precursors_20() {
     text(b"\n");
 }
 
-fn told_solution(answer: Solved, first: f64, second: f64) {
+fn print_solution(answer: Solved, first: f64, second: f64) {
     match answer {
         Solved::Answer => {
             text(b" answer");
             double(first);
             double(second);
         }
-        Solved::Refused(refusal) => told_refusal(columns::number(refusal)),
+        Solved::Refused(refusal) => print_refusal(columns::number(refusal)),
     }
     text(b"\n");
 }
@@ -221,7 +242,7 @@ fn solve(left: f64, right: f64, size: usize) {
     let solution = gauss::solve(table, column, size);
     let values = solution.values;
     let answer = solution.answer;
-    told_solution(answer, values[0], values[1]);
+    print_solution(answer, values[0], values[1]);
 }
 
 // "system [-1E-8], right side 5: answer 5, since the entry becomes 0. system [NaN]: 7. Size 0 or 21: 3."
@@ -243,7 +264,7 @@ fn error_at(score: f64) {
     };
     match kde::posterior_error(estimator, &[0.5f64, 0.25], score) {
         Posterior::Error(error) => double(error),
-        Posterior::Refused(refusal) => told_refusal(columns::number(refusal)),
+        Posterior::Refused(refusal) => print_refusal(columns::number(refusal)),
     }
 }
 
@@ -258,10 +279,10 @@ fn posterior_errors() {
     text(b"\n");
 }
 
-fn told_bins(tolerance: Tolerance) {
+fn print_bins(tolerance: Tolerance) {
     match kde::bin_count(tolerance) {
         BinCount::Bins(bins) => number(bins),
-        BinCount::Refused(refusal) => told_refusal(columns::number(refusal)),
+        BinCount::Refused(refusal) => print_refusal(columns::number(refusal)),
     }
     text(b"\n");
 }
@@ -269,21 +290,21 @@ fn told_bins(tolerance: Tolerance) {
 // "ppm -10 to 10: 100 bins. ppm -75.5 to 75: 151. Da -600 to 600: 1200. Da 0 to 65,537: 3. Pct: 4."
 fn tolerances() {
     text(b"ppm -10 to 10:");
-    told_bins(Tolerance::Ppm(-10.0, 10.0));
+    print_bins(Tolerance::Ppm(-10.0, 10.0));
     text(b"ppm -75.5 to 75:");
-    told_bins(Tolerance::Ppm(-75.5, 75.0));
+    print_bins(Tolerance::Ppm(-75.5, 75.0));
     text(b"Da -600 to 600:");
-    told_bins(Tolerance::Da(-600.0, 600.0));
+    print_bins(Tolerance::Da(-600.0, 600.0));
     text(b"Da 0 to 65537:");
-    told_bins(Tolerance::Da(0.0, 65537.0));
+    print_bins(Tolerance::Da(0.0, 65537.0));
     text(b"Pct -10 to 10:");
-    told_bins(Tolerance::Pct(-10.0, 10.0));
+    print_bins(Tolerance::Pct(-10.0, 10.0));
 }
 
-fn told_outcome(answer: Outcome) {
+fn print_outcome(answer: Outcome) {
     match answer {
         Outcome::Accepted => text(b" accepted"),
-        Outcome::Refused(refusal) => told_refusal(columns::number(refusal)),
+        Outcome::Refused(refusal) => print_refusal(columns::number(refusal)),
     }
 }
 
@@ -296,13 +317,13 @@ fn equal_sides() {
     let mut scores = [0.0f32; 1];
     let mut is_decoy = [9u32; 1];
     text(b"equal forward and reverse:");
-    told_outcome(competition::fresh_table(
+    print_outcome(competition::fresh_table(
         &mut forward,
         &mut reverse,
         &mut forward_seen,
         &mut reverse_seen,
     ));
-    told_outcome(competition::add_rows(
+    print_outcome(competition::add_rows(
         &[0u32, 0],
         &[1i32, -1],
         &[2.0f32, 2.0],
@@ -311,7 +332,7 @@ fn equal_sides() {
         &mut forward_seen,
         &mut reverse_seen,
     ));
-    told_outcome(competition::winners(
+    print_outcome(competition::winners(
         &forward,
         &reverse,
         &forward_seen,
@@ -333,7 +354,7 @@ fn minus_infinity() {
     let mut forward_seen = [0u32; 1];
     let mut reverse_seen = [0u32; 1];
     text(b"a score of -infinity:");
-    told_outcome(competition::add_rows(
+    print_outcome(competition::add_rows(
         &[0u32],
         &[1i32],
         &[-1.0 / 0.0f32],
@@ -345,7 +366,7 @@ fn minus_infinity() {
     single(forward[0]);
     number_32(forward_seen[0]);
     text(b"\nslot 1 of one slot:");
-    told_outcome(competition::add_rows(
+    print_outcome(competition::add_rows(
         &[0u32, 1],
         &[-1i32, 1],
         &[1.0f32, 1.0],
@@ -361,16 +382,18 @@ fn minus_infinity() {
 
 // The q-values of two slots and of a row that takes no part.
 fn two_slots_q(forward: &[f32], reverse: &[f32], forward_seen: &[u32], reverse_seen: &[u32]) {
-    let estimator = Estimator {
-        min_score: 1.0,
-        score_step: 1.0,
+    let settings = Settings {
+        names: Names::Two,
+        estimator: Estimator {
+            min_score: 1.0,
+            score_step: 1.0,
+        },
     };
     let mut keys = [9u64; 4];
     let mut spare = [9u64; 4];
     let mut q = [0.0f32; 3];
-    told_count(fdr::assign_q_value(
-        Names::Two,
-        estimator,
+    print_count(fdr::assign_q_value(
+        settings,
         &[0.5f64, 0.25],
         forward,
         reverse,
@@ -396,13 +419,13 @@ fn two_slots() {
     let mut forward_seen = [9u32; 2];
     let mut reverse_seen = [9u32; 2];
     text(b"two target slots, and a row that takes no part:");
-    told_outcome(competition::fresh_table(
+    print_outcome(competition::fresh_table(
         &mut forward,
         &mut reverse,
         &mut forward_seen,
         &mut reverse_seen,
     ));
-    told_outcome(competition::add_rows(
+    print_outcome(competition::add_rows(
         &[0u32, 1, 4294967295],
         &[1i32, 1, 1],
         &[2.0f32, 1.0, 3.0],
@@ -417,10 +440,10 @@ fn two_slots() {
 // "Is the line at most the list's length?" and "Do all lent columns have the stated length …?"
 fn refusals() {
     text(b"line 2 of one row:");
-    told_line(line_check::check_line(&[1i32], 2, Rate::OneIn100));
+    print_line(line_check::check_line(&[1i32], 2, Rate::OneIn100));
     let mut q = [0.0f32; 2];
     text(b"one label, two q:");
-    told_count(qvalue::spectrum_q_value(&[1i32], &mut q));
+    print_count(qvalue::spectrum_q_value(&[1i32], &mut q));
     text(b", q NaN");
     number(count_bits(&q, 0x7fc0_0000));
     text(b" times\n");
@@ -438,6 +461,7 @@ fn main() {
     targets_19();
     targets_40();
     precursors_20();
+    order_of_four();
     systems();
     posterior_errors();
     tolerances();

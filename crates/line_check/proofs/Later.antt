@@ -1,4 +1,5 @@
--- The pass of the line check: the counts so far (`Tally`), and those of the last row after the line that qualifies, or of the line itself.
+-- The pass of the line check: the counts so far (`Tally`), and those of the last row after the line that qualifies, or
+-- of the line itself.
 use mathlib.Core.Path.{_≡_, refl, sym, ap, _∙_}
 use mathlib.Core.List.{List}
 use mathlib.Core.Bool.{true, false}
@@ -10,6 +11,7 @@ use lib.IntN.{ℤ}
 use lib.ListN.{length}
 use mir.Syntax.{w64}
 use mir.Val.{Fits}
+use Rattle.counting.specs.Labels.{decoys, targets}
 use Rattle.counting.specs.Lines.{qualifies, lastRow, rightLine}
 use Rattle.counting.proofs.Labels.{row-counts}
 use Rattle.counting.proofs.Lines.{last-next, last-within}
@@ -33,6 +35,14 @@ module _ (labels : List ℤ) {c : Counts} (row : ℕ) (h : row ≤ length labels
 
   pub decoys-small : length labels ≤ 16777215 → c .«decoys_plus_one» ≤ 16777216
   decoys-small s = omega (arith, ap (λ (x : Counts). x .«decoys_plus_one») e, row-counts row labels)
+
+-- the counts before the first row
+pub row-zero : (labels : List ℤ) → _≡_ {A = Counts} (record { row = 0; «decoys_plus_one» = 1; targets = 0 }) (countsAt labels 0)
+unfolding decoys targets
+row-zero labels = refl
+
+pub after-row-zero : (per : ℕ) (labels : List ℤ) → countsAt labels (max 0 (rightLine per labels)) ≡ countsAt labels (rightLine per labels)
+after-row-zero per labels = let e : max 0 (rightLine per labels) ≡ rightLine per labels = omega arith in ap (countsAt labels) e
 
 -- a count times the rate fits
 pub product-fits : (per n : ℕ) → per ≤ 100 → n ≤ 16777216 → Fits w64 (per * n)

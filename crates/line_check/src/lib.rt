@@ -1,11 +1,12 @@
-// The line check (document 01, module 7), which sage does not have. One pass: it counts up to the line, keeps those counts, and goes on
-// to the end, where the last later row that qualifies is known.
+// The line check (document 01, module 7), which sage does not have. One pass: it counts up to the line, keeps those
+// counts, and goes on to the end, where the last later row that qualifies is known.
 ghost use mathlib.Core.Path.{_≡_};
 ghost use Prim.Native.Nat.{_≤_, max};
 ghost use lib.ListN.{length};
 ghost use Rattle.columns.specs.Refusals.{longest};
 ghost use Rattle.counting.specs.Lines.{rightLine};
-ghost use Rattle.line_check.specs.Check.{perOf, countsAt, lineAnswer};
+ghost use Rattle.line_check.specs.Check.{perOf, countsAt, judgement, lineAsked, lineAnswer, numbersOf};
+use columns::Outcome;
 use columns::Refusal;
 
 // The two rates that lists are sold at.
@@ -26,6 +27,43 @@ pub enum Line {
     Right(Counts),
     Wrong(Counts),
     Refused(Refusal),
+}
+
+// A line's answer as numbers.
+pub struct LineNumbers {
+    pub number: u32,
+    pub right: u32,
+    pub row: usize,
+    pub decoys_plus_one: usize,
+    pub targets: usize,
+}
+
+pub fn line_numbers(line: Line) -> LineNumbers
+    ensures { λ r. ⌜ r ≡ numbersOf line ⌝ }
+{
+    match line {
+        Line::Right(c) => LineNumbers {
+            number: 0,
+            right: 1,
+            row: c.row,
+            decoys_plus_one: c.decoys_plus_one,
+            targets: c.targets,
+        },
+        Line::Wrong(c) => LineNumbers {
+            number: 0,
+            right: 0,
+            row: c.row,
+            decoys_plus_one: c.decoys_plus_one,
+            targets: c.targets,
+        },
+        Line::Refused(refusal) => LineNumbers {
+            number: columns::number(refusal),
+            right: 0,
+            row: 0,
+            decoys_plus_one: 0,
+            targets: 0,
+        },
+    }
 }
 
 // How many targets a row needs for each of its decoys plus one.
@@ -60,13 +98,16 @@ fn count_to(labels: &[i32], row: usize) -> Counts
     }
 }
 
-// The counts at the last row after `own` that qualifies, or those of `own` if none does. The pass goes on where `own` ends.
+// The counts at the last row after `own` that qualifies, or those of `own` if none does. The pass goes on where `own`
+// ends.
 fn last_later(labels: &[i32], own: Counts, per: usize) -> Counts
     requires { ⌜ length (now labels) ≤ longest ⌝ }
     requires { ⌜ per ≤ 100 ⌝ }
     requires { ⌜ own .row ≤ length (now labels) ⌝ }
     requires { ⌜ own ≡ countsAt (now labels) (own .row) ⌝ }
-    ensures { λ r. ⌜ r ≡ countsAt (now (labels .entry)) (max (own .row) (rightLine per (now (labels .entry)))) ⌝ }
+    ensures { λ r.
+        let l = now (labels .entry) in
+        ⌜ r ≡ countsAt l (max (own .row) (rightLine per l)) ⌝ }
 {
     let mut last_row = own.row;
     let mut last_decoys = own.decoys_plus_one;
@@ -93,12 +134,25 @@ fn last_later(labels: &[i32], own: Counts, per: usize) -> Counts
     }
 }
 
-// The answer for a line within the list: right where no later row qualifies, and the line is 0 or its own row qualifies.
-fn judged(labels: &[i32], line: usize, per: usize) -> Line
+// The counts at the right line of a ranked list at `rate`: the last row that qualifies, or row 0.
+pub fn right_line(labels: &[i32], rate: Rate) -> Counts
+    requires { ⌜ length (now labels) ≤ longest ⌝ }
+    ensures { λ r. ⌜ r ≡ countsAt (now (labels .entry)) (rightLine (perOf rate) (now (labels .entry))) ⌝ }
+{
+    let none = Counts {
+        row: 0,
+        decoys_plus_one: 1,
+        targets: 0,
+    };
+    last_later(labels, none, per_decoy(rate))
+}
+
+// The answer for a line of the list: right where no later row qualifies, and the line is 0 or its own row qualifies.
+fn judge(labels: &[i32], line: usize, per: usize) -> Line
     requires { ⌜ length (now labels) ≤ longest ⌝ }
     requires { ⌜ line ≤ length (now labels) ⌝ }
     requires { ⌜ per ≤ 100 ⌝ }
-    ensures { λ r. ⌜ r ≡ lineAnswer per (now (labels .entry)) line ⌝ }
+    ensures { λ r. ⌜ r ≡ judgement per (now (labels .entry)) line ⌝ }
 {
     let own = count_to(labels, line);
     let last = last_later(labels, own, per);
@@ -114,15 +168,25 @@ fn judged(labels: &[i32], line: usize, per: usize) -> Line
     Line::Right(own)
 }
 
+// Questions 1 and 9.
+fn ask(labels: usize, line: usize) -> Outcome
+    ensures { λ r. ⌜ r ≡ lineAsked labels line ⌝ }
+{
+    if columns::LONGEST < labels {
+        return Outcome::Refused(Refusal::TooLong);
+    }
+    if labels < line {
+        return Outcome::Refused(Refusal::PastTheEnd);
+    }
+    Outcome::Accepted
+}
+
 // Whether `line` is the right line of a ranked list at `rate`.
 pub fn check_line(labels: &[i32], line: usize, rate: Rate) -> Line
     ensures { λ r. ⌜ r ≡ lineAnswer (perOf rate) (now (labels .entry)) line ⌝ }
 {
-    if columns::LONGEST < labels.len() {
-        return Line::Refused(Refusal::TooLong);
+    match ask(labels.len(), line) {
+        Outcome::Refused(refusal) => Line::Refused(refusal),
+        Outcome::Accepted => judge(labels, line, per_decoy(rate)),
     }
-    if labels.len() < line {
-        return Line::Refused(Refusal::PastTheEnd);
-    }
-    judged(labels, line, per_decoy(rate))
 }

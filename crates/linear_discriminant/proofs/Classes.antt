@@ -17,7 +17,7 @@ use Rattle.counting.proofs.Labels.{both}
 use Rattle.counting.proofs.Tally.{label-test}
 use Rattle.gauss.specs.Elimination.{Matrix, row}
 use Rattle.linear_discriminant.specs.Fit.{classOf}
-use Rattle.linear_discriminant.specs.Passes.{addedRow, sumRow}
+use Rattle.linear_discriminant.specs.Inner.Passes.{addedRow, sumRow}
 
 pub class-of : (l : ℤ) → mag l < 2 ^ 31 → boolByte (not (eqb (ofZ w32 l) 4294967295)) ≡ classOf l
 class-of l f = rw (label-test l f) (go (isDecoy l))
@@ -34,8 +34,8 @@ class-small l = go (isDecoy l)
     go false = omega arith
 
 -- a label as a callee gets it
-pub class-told : (l : ℤ) {c : ℕ} → mag l < 2 ^ 31 → (c ≡ classOf (toZ w32 (ofZ w32 l))) × (c < 2) → c ≡ classOf l
-class-told l f e = e .0 ∙ ap classOf (toZ-ofZ w32 l (record { sfits = f }))
+pub class-given : (l : ℤ) {c : ℕ} → mag l < 2 ^ 31 → (c ≡ classOf (toZ w32 (ofZ w32 l))) × (c < 2) → c ≡ classOf l
+class-given l f e = e .0 ∙ ap classOf (toZ-ofZ w32 l (record { sfits = f }))
 
 -- a row that goes to its class's sums
 pub sum-turn : (features : List Float) (labels : List ℤ) (i : ℕ) (sums : Matrix) {c : ℕ} {r : List Float} → c ≡ classOf (getD labels i (pos 0))
@@ -45,5 +45,5 @@ sum-turn features labels i sums {c} e f = ap (set sums c) f ∙ ap (λ (c : ℕ)
 pub rest-targets : (labels : List ℤ) {d : ℕ} → d ≡ decoys labels → length labels - d ≡ targets labels
 rest-targets labels e = omega (arith, both labels)
 
-pub decoys-within : (labels : List ℤ) {d : ℕ} → d ≡ decoys labels → d ≤ length labels
-decoys-within labels e = omega (arith, both labels)
+pub decoys-at-most : (labels : List ℤ) {d : ℕ} → d ≡ decoys labels → d ≤ length labels
+decoys-at-most labels e = omega (arith, both labels)

@@ -1,11 +1,10 @@
-pub mod Lengths
+pub mod Questions
 pub mod Classes
 pub mod Sums
 pub mod Halves
-pub mod Piles
-pub mod Slots
-pub mod Scatter
+pub mod Accumulated
+pub mod KeptRows
+pub mod Scatters
 pub mod Fits
 pub mod Coefficients
 pub mod Blocks
-pub mod Runs

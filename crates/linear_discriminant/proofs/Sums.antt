@@ -14,7 +14,7 @@ use Rattle.floats.specs.Constants.{f64Zero}
 use Rattle.gauss.specs.Elimination.{Matrix, row}
 use Rattle.linear_discriminant.specs.Rows.{feature}
 use Rattle.linear_discriminant.specs.Fit.{classOf, inClass, addTaken, summed}
-use Rattle.linear_discriminant.specs.Passes.{addedRow, sumRow, summedRows}
+use Rattle.linear_discriminant.specs.Inner.Passes.{addedRow, sumRow, summedRows}
 use Rattle.folds.proofs.Walks.{for-range-last, for-range-join}
 use Rattle.folds.proofs.Writing.{tabulated-same, tabulated-at, tabulated-set}
 use Rattle.linear_discriminant.proofs.Classes.{class-small}
@@ -29,17 +29,17 @@ module _ (features : List Float) (labels : List ℤ) where
   abbrev pub classSum : ℕ → ℕ → ℕ → Float
   classSum c n j = summed (inClass labels c) (λ i. feature features i j) n
 
-  abbrev pub classSums : ℕ → Matrix
-  classSums n = tabulated (λ c. tabulated (classSum c n) 0 20) 0 2
+  abbrev pub sumTable : ℕ → Matrix
+  sumTable n = tabulated (λ c. tabulated (classSum c n) 0 20) 0 2
 
   next : (c n j : ℕ) → classSum c (n + 1) j ≡ addTaken (inClass labels c) (λ i. feature features i j) n (classSum c n j)
   unfolding summed
   next c n j = for-range-last (addTaken (inClass labels c) (λ i. feature features i j)) 0 n f64Zero zero-le
 
   -- one row more
-  turn : (n : ℕ) → sumRow features labels n (classSums n) ≡ classSums (n + 1)
+  turn : (n : ℕ) → sumRow features labels n (sumTable n) ≡ sumTable (n + 1)
   unfolding addedRow
-  turn n = tabulated-set (λ c. tabulated (classSum c n) 0 20) 2 own (addedRow features n (row (classSums n) own)) [] (class-small (getD labels n (pos 0))) mine others
+  turn n = tabulated-set (λ c. tabulated (classSum c n) 0 20) 2 own (addedRow features n (row (sumTable n) own)) [] (class-small (getD labels n (pos 0))) mine others
     where
       own : ℕ
       own = classOf (getD labels n (pos 0))
@@ -48,18 +48,18 @@ module _ (features : List Float) (labels : List ℤ) where
           → classSum c (n + 1) j ≡ cond b (add binary64 (classSum c n j) (feature features n j)) (classSum c n j)
       taken c j b e = next c n j ∙ ap (λ (b : Bool). cond b (add binary64 (classSum c n j) (feature features n j)) (classSum c n j)) e
 
-      read : (j : ℕ) → j < 20 → getD (row (classSums n) own) j nan ≡ classSum own n j
+      read : (j : ℕ) → j < 20 → getD (row (sumTable n) own) j nan ≡ classSum own n j
       read j h =
           ap (λ (l : List Float). getD l j nan) (tabulated-at (λ c. tabulated (classSum c n) 0 20) 2 own [] (class-small (getD labels n (pos 0))))
           ∙ tabulated-at (classSum own n) 20 j nan h
 
-      mine : tabulated (classSum own (n + 1)) 0 20 ≡ addedRow features n (row (classSums n) own)
+      mine : tabulated (classSum own (n + 1)) 0 20 ≡ addedRow features n (row (sumTable n) own)
       mine = tabulated-same 20 (λ j h. taken own j true (eq-eqb own own refl) ∙ ap (λ (s : Float). add binary64 s (feature features n j)) (sym (read j h)))
 
       others : (c : ℕ) → c < 2 → (c ≡ own → ⊥) → tabulated (classSum c (n + 1)) 0 20 ≡ tabulated (classSum c n) 0 20
       others c h p = tabulated-same 20 (λ j h. taken c j false (ne-eqb own c (λ e. p (sym e))))
 
-  pub sums-are : (n : ℕ) → summedRows features labels 0 n (replicate 2 (replicate 20 f64Zero)) ≡ classSums n
+  pub sums-are : (n : ℕ) → summedRows features labels 0 n (replicate 2 (replicate 20 f64Zero)) ≡ sumTable n
   unfolding summedRows summed steps tabulated
   sums-are zero = refl
   sums-are (suc n) =
@@ -67,4 +67,4 @@ module _ (features : List Float) (labels : List ℤ) where
       ∙ for-range-last (sumRow features labels) 0 n (replicate 2 (replicate 20 f64Zero)) zero-le
       ∙ ap (sumRow features labels n) (sums-are n)
       ∙ turn n
-      ∙ ap classSums (add-one n)
+      ∙ ap sumTable (add-one n)

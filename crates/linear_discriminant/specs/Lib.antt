@@ -1,5 +1,4 @@
 pub mod Rows
 pub mod Fit
 pub mod Scores
-pub mod Passes
-pub mod Blocks
+pub mod Inner

@@ -1,5 +1,5 @@
--- Rows of features, and a row's score. Document 01: "Feature rows arrive already transformed, twenty 64-bit floats per row"; module 3: "for a
--- row: score"; "the Rust decides the order of operations", and "its sums start at +0.0".
+-- Rows of features, and a row's score. Document 01: "Feature rows arrive already transformed, twenty 64-bit floats per
+-- row"; module 3: "for a row: score"; "the Rust decides the order of operations", and "its sums start at +0.0".
 use Prim.Native.Nat.{ℕ, _+_, _*_}
 use mathlib.Core.List.{List}
 use lib.ListN.{getD}

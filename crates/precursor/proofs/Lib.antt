@@ -1,5 +1,3 @@
-pub mod Flags
-pub mod Unpacked
-pub mod Places
-pub mod Joined
-pub mod Ranks
+pub mod Questions
+mod Assigned
+mod Joined

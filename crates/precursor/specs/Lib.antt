@@ -1,2 +1,1 @@
 pub mod Precursors
-pub mod Packed

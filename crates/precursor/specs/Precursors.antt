@@ -1,89 +1,77 @@
--- Precursors. Document 01, module 6: "Precursors are ranked by the narrowed peak score (module 5's ranking), and the q-values go back to the
--- original places; the count takes targets at or under 0.05"; module 7: "a line of a precursor list counts its rows as ranked".
-use mathlib.Core.List.{List, [], _∷_, map}
-use mathlib.Core.Bool.{Bool, true, false, cond, _&&_}
-use mathlib.Core.Path.{_≡_}
-use Prim.Native.Nat.{ℕ, suc, _≤_}
+-- Precursors. Document 01, module 6: "Precursors are ranked by the narrowed peak score (module 5's ranking), and the
+-- q-values go back to the original places; the count takes targets at or under 0.05".
+use mathlib.Core.List.{List}
+use mathlib.Core.Bool.{_&&_}
+use Prim.Native.Nat.{ℕ}
 use lib.Dec.{leb, eqb}
-use lib.IntN.{ℤ, pos}
+use lib.IntN.{ℤ}
 use lib.ListN.{length, getD}
-use lib.Ieee.{Float, nan, binary32}
+use lib.Ieee.{Float, nan}
 use Rattle.folds.specs.Lists.{filled, tabulated}
-use Rattle.columns.specs.Refusals.{longest}
+use Rattle.columns.specs.Refusals.{longest, ifNot, answered}
 use Rattle.columns.specs.declared.Counted.{Counted}
-use Rattle.columns.specs.declared.Counted.the-variants.{Passing, Refused}
+use Rattle.columns.specs.declared.Counted.the-variants as counted
 use Rattle.columns.specs.declared.Refusal.the-variants.{TooLong, WrongLength}
 use Rattle.columns.specs.declared.Outcome.{Outcome}
-use Rattle.columns.specs.declared.Outcome.the-variants as outcome
-use Rattle.floats.specs.Convert.{converted}
+use Rattle.columns.specs.declared.Outcome.the-variants.{Accepted, Refused}
 use Rattle.floats.specs.Ratio.{oneIn}
 use Rattle.counting.specs.QValues.{qValues, targetsAtMost}
-use Rattle.ranking.specs.Ranking.{Row, ranked}
+use Rattle.ranking.specs.Ranking.{rankedRows, rankedOrder, asRanked, rankOf}
 
--- the rows, ranked by the narrowed score
-unfoldable pub rankedRows : List Float → List Row
-rankedRows scores = ranked (map (converted binary32) scores)
+-- ---- the q-values
 
--- the labels of the list as ranked
-unfoldable pub asRanked : List ℤ → List Float → List ℤ
-asRanked labels scores = map (λ r. getD labels (r .place) (pos 0)) (rankedRows scores)
-
--- how many rows stand before the one that came in at a place
-unfoldable pub rankOf : List Row → ℕ → ℕ
-rankOf [] place = 0
-rankOf (r ∷ rs) place = cond (eqb (r .place) place) 0 (suc (rankOf rs place))
-
--- the q-values at the original places
+-- of the list as ranked, each at its row's original place
 unfoldable pub precursorQ : List ℤ → List Float → List Float
 precursorQ labels scores =
-    tabulated (λ place. getD (qValues (asRanked labels scores)) (rankOf (rankedRows scores) place) nan) 0 (length labels)
+    let q = qValues (asRanked labels scores) in
+    tabulated (λ place. getD q (rankOf (rankedRows scores) place) nan) 0 (length labels)
 
--- "Is every list at most 16,777,215 long?" and "Do all lent columns have the stated length (… one per entry …)?", of the two input columns, the
--- two working columns and the result
-unfoldable pub asked : ℕ → ℕ → ℕ → ℕ → ℕ → Counted → Counted
-asked labels scores keys spare q accepted =
-    cond (leb labels longest && leb scores longest)
-    (cond (eqb scores labels && (eqb keys labels && (eqb spare labels && eqb q labels))) accepted (Refused WrongLength))
-    (Refused TooLong)
+-- what the call answers, and its columns afterwards
+pub record PrecursorRun : Type 0 where
+  pub answer : Counted
+  pub keys : List ℕ
+  pub spare : List ℕ
+  pub q : List Float
 
--- what the two questions let pass
-pub record Fitting (labels scores keys spare q : ℕ) : Type 0 where
-  pub short : labels ≤ longest
-  pub scores-fit : scores ≡ labels
-  pub keys-fit : keys ≡ labels
-  pub spare-fit : spare ≡ labels
-  pub q-fit : q ≡ labels
+abbrev pub precursorRun : Counted → List ℕ → List ℕ → List Float → PrecursorRun
+precursorRun answer keys spare q = record { answer = answer; keys = keys; spare = spare; q = q }
 
--- whether a call accepts
-abbrev pub accepts : Counted → Bool
-accepts (Passing n) = true
-accepts (Refused r) = false
+-- questions 1 and 2: short lists, and one entry per precursor in each column
+abbrev pub precursorAsked : ℕ → ℕ → ℕ → ℕ → ℕ → Outcome
+precursorAsked labels scores keys spare q =
+    ifNot (leb labels longest && leb scores longest) TooLong
+    (ifNot (eqb scores labels && (eqb keys labels && (eqb spare labels && eqb q labels))) WrongLength Accepted)
 
--- the answer
-unfoldable pub precursorAnswer : List ℤ → List Float → ℕ → ℕ → ℕ → Counted
-precursorAnswer labels scores keys spare q =
-    asked (length labels) (length scores) keys spare q
-    (Passing (targetsAtMost (oneIn 20) (asRanked labels scores) (qValues (asRanked labels scores))))
+-- the q-values, and how many targets have one of at most 0.05; a refusal leaves NaN in every place
+unfoldable pub pickedPrecursor : List ℤ → List Float → List ℕ → List ℕ → List Float → PrecursorRun
+pickedPrecursor labels scores keys spare q =
+    let rows = asRanked labels scores in
+    let passing = targetsAtMost (oneIn 20) rows (qValues rows) in
+    answered (precursorAsked (length labels) (length scores) (length keys) (length spare) (length q))
+    (precursorRun (counted.Passing passing) (filled 0 keys) (filled 0 spare) (precursorQ labels scores))
+    (λ r. precursorRun (counted.Refused r) (filled 0 keys) (filled 0 spare) (filled nan q))
 
--- the result column afterwards; the working columns hold 0, which the contracts say
-unfoldable pub precursorColumn : List ℤ → List Float → ℕ → ℕ → List Float → List Float
-precursorColumn labels scores keys spare q =
-    cond (accepts (precursorAnswer labels scores keys spare (length q))) (precursorQ labels scores) (filled nan q)
+-- ---- the order. Module 7: "a line of a precursor list counts its rows as ranked".
 
--- each precursor's rank, from 1
-unfoldable pub precursorRanks : List Float → List ℕ
-precursorRanks scores = tabulated (λ place. suc (rankOf (rankedRows scores) place)) 0 (length scores)
+-- what the call answers, and its columns afterwards
+pub record OrderRun : Type 0 where
+  pub answer : Outcome
+  pub keys : List ℕ
+  pub spare : List ℕ
+  pub order : List ℕ
 
--- the same questions of the call that gives ranks: one input column, two working columns and the result
-unfoldable pub ranksAnswer : ℕ → ℕ → ℕ → ℕ → Outcome
-ranksAnswer scores keys spare ranks =
-    cond (leb scores longest)
-    (cond (eqb keys scores && (eqb spare scores && eqb ranks scores)) outcome.Accepted (outcome.Refused WrongLength))
-    (outcome.Refused TooLong)
+abbrev pub orderRun : Outcome → List ℕ → List ℕ → List ℕ → OrderRun
+orderRun answer keys spare order = record { answer = answer; keys = keys; spare = spare; order = order }
 
--- its column afterwards: the ranks, or 4,294,967,295 in every place
-unfoldable pub ranksColumn : List Float → ℕ → ℕ → List ℕ → List ℕ
-ranksColumn scores keys spare ranks =
-    cond (leb (length scores) longest)
-    (cond (eqb keys (length scores) && (eqb spare (length scores) && eqb (length ranks) (length scores))) (precursorRanks scores) (filled 4294967295 ranks))
-    (filled 4294967295 ranks)
+-- questions 1 and 2, without labels
+abbrev pub orderAsked : ℕ → ℕ → ℕ → ℕ → Outcome
+orderAsked scores keys spare order =
+    ifNot (leb scores longest) TooLong
+    (ifNot (eqb keys scores && (eqb spare scores && eqb order scores)) WrongLength Accepted)
+
+-- the place of the row at each rank; a refusal leaves 4,294,967,295 in every place
+unfoldable pub precursorOrder : List Float → List ℕ → List ℕ → List ℕ → OrderRun
+precursorOrder scores keys spare order =
+    answered (orderAsked (length scores) (length keys) (length spare) (length order))
+    (orderRun Accepted (filled 0 keys) (filled 0 spare) (rankedOrder scores))
+    (λ r. orderRun (Refused r) (filled 0 keys) (filled 0 spare) (filled 4294967295 order))

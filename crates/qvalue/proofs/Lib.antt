@@ -1,1 +1,1 @@
-pub mod Spectrum
+pub mod Questions

@@ -1,29 +1,36 @@
--- The spectrum call. Document 01, module 6: "Spectrum rows arrive ranked; the count takes decoys too, at or under 0.01"; and questions 1 and 2.
+-- The spectrum call. Document 01, module 6: "Spectrum rows arrive ranked; the count takes decoys too, at or under
+-- 0.01".
 use mathlib.Core.List.{List}
-use mathlib.Core.Bool.{cond}
 use Prim.Native.Nat.{ℕ}
 use lib.Dec.{leb, eqb}
 use lib.IntN.{ℤ}
 use lib.ListN.{length}
 use lib.Ieee.{Float, nan}
 use Rattle.folds.specs.Lists.{filled}
-use Rattle.columns.specs.Refusals.{longest}
+use Rattle.columns.specs.Refusals.{longest, ifNot, answered}
+use Rattle.columns.specs.declared.Outcome.{Outcome}
+use Rattle.columns.specs.declared.Outcome.the-variants.{Accepted}
 use Rattle.columns.specs.declared.Counted.{Counted}
 use Rattle.columns.specs.declared.Counted.the-variants.{Passing, Refused}
 use Rattle.columns.specs.declared.Refusal.the-variants.{TooLong, WrongLength}
 use Rattle.floats.specs.Ratio.{oneIn}
 use Rattle.counting.specs.QValues.{qValues, atMost}
 
--- the answer, for a column of n places
-unfoldable pub spectrumAnswer : List ℤ → ℕ → Counted
-spectrumAnswer labels n =
-    cond (leb (length labels) longest)
-    (cond (eqb n (length labels)) (Passing (atMost (oneIn 100) (qValues labels))) (Refused WrongLength))
-    (Refused TooLong)
+-- what the call answers, and the column of q-values afterwards
+pub record SpectrumRun : Type 0 where
+  pub answer : Counted
+  pub q : List Float
 
--- the column afterwards: the q-values, or NaN in every place
-unfoldable pub spectrumColumn : List ℤ → List Float → List Float
-spectrumColumn labels column =
-    cond (leb (length labels) longest)
-    (cond (eqb (length column) (length labels)) (qValues labels) (filled nan column))
-    (filled nan column)
+abbrev pub spectrumRun : Counted → List Float → SpectrumRun
+spectrumRun answer q = record { answer = answer; q = q }
+
+-- questions 1 and 2, of a list of labels and a column of q-values
+abbrev pub spectrumAsked : ℕ → ℕ → Outcome
+spectrumAsked labels q = ifNot (leb labels longest) TooLong (ifNot (eqb q labels) WrongLength Accepted)
+
+-- the q-values, and how many are at most 0.01; a refusal leaves NaN in every place
+unfoldable pub spectrumQValue : List ℤ → List Float → SpectrumRun
+spectrumQValue labels q =
+    answered (spectrumAsked (length labels) (length q))
+    (spectrumRun (Passing (atMost (oneIn 100) (qValues labels))) (qValues labels))
+    (λ r. spectrumRun (Refused r) (filled nan q))

@@ -1,5 +1,6 @@
-// sage's ml/qvalue.rs (document 01, module 6): one pass down the list writes each row's ratio of decoys plus one to targets,
-// and one pass up takes the running minimum and counts. Neither branches on a row, so their speed does not depend on the labels' order.
+// sage's ml/qvalue.rs (document 01, module 6): one pass from the first row writes each row's ratio of decoys plus one
+// to targets, and one from the last takes the running minimum and counts. Neither branches on a row, so that the order
+// of the labels does not change their speed.
 ghost use mathlib.Core.Path.{_≡_};
 ghost use Prim.Native.Nat.{_≤_};
 ghost use mathlib.Core.Bool.{not};
@@ -11,8 +12,9 @@ ghost use Rattle.floats.specs.MinMax.{minNumber};
 ghost use Rattle.columns.specs.Refusals.{longest};
 ghost use Rattle.floats.specs.Ratio.{oneIn};
 ghost use Rattle.counting.specs.QValues.{ratios, runningMinimum, atMost};
-ghost use Rattle.qvalue.specs.Spectrum.{spectrumAnswer, spectrumColumn};
+ghost use Rattle.qvalue.specs.Spectrum.{spectrumAsked, spectrumRun, spectrumQValue};
 use columns::Counted;
+use columns::Outcome;
 use columns::Refusal;
 
 // Decoys plus one, over targets, at each row.
@@ -28,12 +30,12 @@ fn write_ratios(labels: &[i32], q: &mut [f32])
         let is_decoy = (labels[i] == -1) as u32;
         decoy += is_decoy;
         target += 1 - is_decoy;
-        q[i] = decoy as f32 / target as f32;
+        q[i] = floats::count_to_f32(decoy) / floats::count_to_f32(target);
         i += 1;
     }
 }
 
-// The lesser of two numbers of which the first is no NaN: one comparison, and no branch once compiled.
+// floats::min_f32 where the first number is no NaN: one comparison, and no branch once compiled.
 fn lower(low: f32, next: f32) -> f32
     requires { ⌜ T (not (isNan low)) ⌝ }
     ensures { λ r. ⌜ r ≡ minNumber low next ⌝ }
@@ -58,26 +60,32 @@ fn take_minima(q: &mut [f32]) -> usize
     passing
 }
 
-// A refusal, with NaN in every place of the column.
-fn refused(q: &mut [f32], refusal: Refusal) -> Counted
-    ensures answer { λ r. ⌜ r ≡ Counted.Refused refusal ⌝ }
-    ensures column { λ _. ⌜ now (q .exit) ≡ filled (div binary32 (ofBits binary32 0) (ofBits binary32 0)) (now (q .entry)) ⌝ }
+// Questions 1 and 2.
+fn ask(labels: usize, q: usize) -> Outcome
+    ensures { λ r. ⌜ r ≡ spectrumAsked labels q ⌝ }
 {
-    columns::fill_f32(q, 0.0 / 0.0);
-    Counted::Refused(refusal)
+    if columns::LONGEST < labels {
+        return Outcome::Refused(Refusal::TooLong);
+    }
+    if q != labels {
+        return Outcome::Refused(Refusal::WrongLength);
+    }
+    Outcome::Accepted
 }
 
-// Q-values of a ranked list of spectra, and how many of its rows, decoys too, have one of at most 0.01. A label of -1 is a decoy.
+// Q-values of a ranked list of spectra, and how many of its rows, decoys too, have one of at most 0.01. A label of -1
+// is a decoy.
 pub fn spectrum_q_value(labels: &[i32], q: &mut [f32]) -> Counted
-    ensures answer { λ r. ⌜ r ≡ spectrumAnswer (now (labels .entry)) (length (now (q .entry))) ⌝ }
-    ensures column { λ _. ⌜ now (q .exit) ≡ spectrumColumn (now (labels .entry)) (now (q .entry)) ⌝ }
+    ensures { λ r. ⌜ spectrumRun r (now (q .exit)) ≡ spectrumQValue (now (labels .entry)) (now (q .entry)) ⌝ }
 {
-    if columns::LONGEST < labels.len() {
-        return refused(q, Refusal::TooLong);
+    match ask(labels.len(), q.len()) {
+        Outcome::Refused(refusal) => {
+            columns::fill_f32(q, 0.0 / 0.0);
+            Counted::Refused(refusal)
+        }
+        Outcome::Accepted => {
+            write_ratios(labels, q);
+            Counted::Passing(take_minima(q))
+        }
     }
-    if q.len() != labels.len() {
-        return refused(q, Refusal::WrongLength);
-    }
-    write_ratios(labels, q);
-    Counted::Passing(take_minima(q))
 }

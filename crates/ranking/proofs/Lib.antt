@@ -1,6 +1,9 @@
-pub mod Sorting
-pub mod Parts
-pub mod Merging
-pub mod Joining
-pub mod Halving
+pub mod Sorted
+mod Placing
+mod Merging
+mod Joining
+mod Halving
+pub mod Packed
 pub mod Ranks
+pub mod Places
+pub mod Rows

@@ -1,3 +1,3 @@
 pub mod Ranking
-pub mod Keys
-pub mod Runs
+pub mod Sorted
+pub mod Inner

@@ -1,5 +1,6 @@
-// Recorded answers of sage's unchanged Rust: numbers read from a file, least byte first, and columns held against recorded ones by their bits, with all
-// NaNs as one. Where a file ends early, zeros are read and its end is missing; `finish` says so.
+// Recorded answers of sage's unchanged Rust: numbers read from a file, least byte first, and columns compared with
+// recorded ones by their bits, with all NaNs as one. Where a file ends early, zeros are read and its end is missing;
+// `finish` says so.
 ghost use Prim.Native.Nat.{_<_};
 use columns::Counted;
 

@@ -6,7 +6,8 @@ enum Recorded {
     Precursors,
 }
 
-// Whether the q-values of the first `n` rows, whose labels are read into this column, are the recorded ones, and the count.
+// Whether the q-values of the first `n` rows, whose labels are read into this column, are the recorded ones, and the
+// count.
 fn same_spectra(fd: i32, n: usize, labels: &mut [i32], q: &mut [f32]) -> bool {
     if n > labels.len() {
         return false;

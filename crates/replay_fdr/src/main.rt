@@ -1,5 +1,6 @@
 // Replays recorded answers of the Rust's picked_protein and picked_protein_group. data/README.md has the layout.
 use fdr::Names;
+use fdr::Settings;
 use kde::Estimator;
 
 fn names_of(number: u32) -> Names {
@@ -9,7 +10,7 @@ fn names_of(number: u32) -> Names {
     Names::One
 }
 
-// Whether the calls accept a table of the lent columns with these rows.
+// Whether the calls accept a table of these columns with these rows.
 fn accepted(
     slots: &[u32],
     labels: &[i32],
@@ -35,8 +36,7 @@ fn accepted(
 // Whether the q-values and the count are the recorded ones, and the working columns hold 0.
 fn same_q_values(
     fd: i32,
-    names: Names,
-    estimator: Estimator,
+    settings: Settings,
     bins: &[f64],
     forward: &[f32],
     reverse: &[f32],
@@ -49,8 +49,7 @@ fn same_q_values(
     q: &mut [f32],
 ) -> bool {
     let answer = fdr::assign_q_value(
-        names,
-        estimator,
+        settings,
         bins,
         forward,
         reverse,
@@ -67,11 +66,10 @@ fn same_q_values(
     same & counted & replay::all_cleared(keys) & replay::all_cleared(spare)
 }
 
-// Lends the working and result columns.
+// Hands over the working and result columns.
 fn same_table(
     fd: i32,
-    names: Names,
-    estimator: Estimator,
+    settings: Settings,
     bins: &[f64],
     forward: &[f32],
     reverse: &[f32],
@@ -93,8 +91,7 @@ fn same_table(
     let mut q = [0.025f32; 240];
     same_q_values(
         fd,
-        names,
-        estimator,
+        settings,
         bins,
         forward,
         reverse,
@@ -108,11 +105,10 @@ fn same_table(
     )
 }
 
-// Fills the table with the rows, and holds its answers against the recorded ones.
+// Fills the table with the rows, and compares its answers with the recorded ones.
 fn same_filled(
     fd: i32,
-    names: Names,
-    estimator: Estimator,
+    settings: Settings,
     bins: &[f64],
     slots: &[u32],
     labels: &[i32],
@@ -133,8 +129,7 @@ fn same_filled(
     );
     let same = same_table(
         fd,
-        names,
-        estimator,
+        settings,
         bins,
         forward,
         reverse,
@@ -146,11 +141,10 @@ fn same_filled(
     filled & same
 }
 
-// Lends a table of garbage with so many slots.
+// Hands over a table of garbage with a given number of slots.
 fn same_slots(
     fd: i32,
-    names: Names,
-    estimator: Estimator,
+    settings: Settings,
     count: usize,
     bins: &[f64],
     slots: &[u32],
@@ -166,8 +160,7 @@ fn same_slots(
     let mut reverse_seen = [1u32; 210];
     same_filled(
         fd,
-        names,
-        estimator,
+        settings,
         bins,
         slots,
         labels,
@@ -182,8 +175,7 @@ fn same_slots(
 // Reads the rows.
 fn same_rows(
     fd: i32,
-    names: Names,
-    estimator: Estimator,
+    settings: Settings,
     count: usize,
     bins: &[f64],
     slots: &mut [u32],
@@ -193,11 +185,11 @@ fn same_rows(
     replay::read_u32s(fd, slots);
     replay::read_i32s(fd, labels);
     replay::read_f32s(fd, scores);
-    same_slots(fd, names, estimator, count, bins, slots, labels, scores)
+    same_slots(fd, settings, count, bins, slots, labels, scores)
 }
 
-// Lends the rows' columns.
-fn same_list(fd: i32, names: Names, estimator: Estimator, bins: &[f64]) -> bool {
+// Hands over the rows' columns.
+fn same_list(fd: i32, settings: Settings, bins: &[f64]) -> bool {
     let count = replay::read_length(fd);
     let rows = replay::read_length(fd);
     if rows > 240 {
@@ -208,8 +200,7 @@ fn same_list(fd: i32, names: Names, estimator: Estimator, bins: &[f64]) -> bool 
     let mut scores = [0.0f32; 240];
     same_rows(
         fd,
-        names,
-        estimator,
+        settings,
         count,
         bins,
         &mut slots[..rows],
@@ -227,7 +218,11 @@ fn same_estimated(fd: i32, names: Names, bins: &mut [f64]) -> bool {
         min_score: least,
         score_step: step,
     };
-    same_list(fd, names, estimator, bins)
+    let settings = Settings {
+        names: names,
+        estimator: estimator,
+    };
+    same_list(fd, settings, bins)
 }
 
 fn same_case(fd: i32) -> bool {

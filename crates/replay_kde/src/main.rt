@@ -45,7 +45,7 @@ fn same_bins(
     same & (columns::outcome_number(answer) == 0)
 }
 
-// Whether a build of the rows that are lent has the recorded answers.
+// Whether a build of these rows has the recorded answers.
 fn same_columns(
     fd: i32,
     builder: Builder,
@@ -61,7 +61,7 @@ fn same_columns(
     spread & mixed
 }
 
-// The same with so many bins.
+// The same with a given number of bins.
 fn same_with(
     fd: i32,
     monotonic: u32,
@@ -97,7 +97,7 @@ fn same_with(
     )
 }
 
-// Lends columns for up to eight bins.
+// Hands over columns for up to eight bins.
 fn same_rows(fd: i32, monotonic: u32, n: usize, labels: &[i32], scores: &[f64]) -> bool {
     let mut bin_scores = [9.0f64; 8];
     let mut decoy = [9.0f64; 8];

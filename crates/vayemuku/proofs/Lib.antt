@@ -1,1 +1,1 @@
-pub mod Answers
+mod Signs

@@ -4,7 +4,7 @@
 use std::path::PathBuf;
 use std::process::{Command, Output};
 
-/// What a run of the program left.
+/// The result of a run of the program.
 #[derive(Debug)]
 pub struct Ran {
     pub status: Option<i32>,
@@ -13,7 +13,7 @@ pub struct Ran {
 }
 
 impl Ran {
-    /// What is left of a process.
+    /// The result of a process.
     pub fn of(output: Output) -> Ran {
         Ran {
             status: output.status.code(),
@@ -22,7 +22,7 @@ impl Ran {
         }
     }
 
-    /// That the program ended with this status and one line on standard error, and printed nothing else.
+    /// Asserts that the program ended with this status and one line on standard error, and printed nothing else.
     pub fn failed(&self, status: i32, line: &str) {
         assert_eq!((self.status, self.stderr.as_str()), (Some(status), format!("vayemuku: {line}\n").as_str()));
         assert_eq!(self.stdout, "");
@@ -90,7 +90,7 @@ impl Folder {
         Ran::of(Command::new("sh").current_dir(&self.0).args(["-c", words, program]).output().unwrap())
     }
 
-    /// Runs the generator in the folder, and gives its first table, cut after so many rows.
+    /// Runs the generator in the folder, and gives the first rows of its first table.
     pub fn sample(&self, rows: usize) -> Cells {
         let generator = Command::new(env!("CARGO_BIN_EXE_vayemuku-sample")).current_dir(&self.0).arg("sample").status();
         assert!(generator.unwrap().success());
@@ -111,7 +111,7 @@ impl Drop for Folder {
 pub struct Cells(pub Vec<Vec<String>>);
 
 impl Cells {
-    /// The cells of a text, cut after so many rows.
+    /// The cells of a text, up to a number of rows.
     pub fn of(text: &str, rows: usize) -> Cells {
         Cells(text.lines().take(rows + 1).map(|line| line.split('\t').map(String::from).collect()).collect())
     }

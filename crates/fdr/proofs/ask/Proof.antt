@@ -1,56 +1,84 @@
--- `fdr::ask` meets its contract: each way out is a law of proofs/Answers.antt.
-use Rattle.competition.specs.Tables.{tableOf}
-use Rattle.fdr.proofs.Answers.{few-slots, too-long, wrong-length, out-of-range, no-such-slot, accepted}
+-- `fdr::ask` meets its contract: each test is the definition's.
+use mathlib.Core.Bool.{Bool, _&&_}
+use Prim.Native.Nat.{_*_}
+use borrow.Author.Tests.{not-true, not-false}
+use lib.Dec.{leb, eqb}
+use lib.ListN.{length}
+use Rattle.columns.specs.Refusals.{longest}
 use borrow.Author.Needs.{needs}
 use Rattle.fdr.proofs.ask.Statement.{statement}
 use Rattle.fdr.proofs.ask.Tie as tie
 
-returns : tie.Need-returns
-returns c =
-    let a = c .before .before .before .before .before .before .before .before .args in
-    too-long (tableOf (a .forward .now) (a .reverse .now) (a .forward-seen .now) (a .reverse-seen .now)) (a .bins) (a .slots .now) (a .labels) (a .keys) (a .spare) (a .q) _ _ (c .before .before .table-short .ensures) (c .before .short-enough .ensures) (c .if1 .taken)
+abbrev question-1 : tie.After-table-short → Bool
+question-1 c = let a = c .before .before .before .before .before .before .args in c .table-short .result && (leb (length (a .slots .now)) longest && leb (a .labels) longest)
 
-two-per-slot-requires : tie.Need-two-per-slot-requires
-two-per-slot-requires c κs =
-    let a = c .before .before .before .before .before .before .before .before .before .args in
-    few-slots (tableOf (a .forward .now) (a .reverse .now) (a .forward-seen .now) (a .reverse-seen .now)) (a .bins) (a .slots .now) (a .labels) (a .keys) (a .spare) (a .q) _ _ (c .before .before .before .table-short .ensures) (c .before .before .short-enough .ensures) (c .before .if1 .left)
+abbrev question-2 : tie.After-table-fits → Bool
+question-2 c =
+    let a = c .before .before .before .before .before .before .before .before .args in
+    let rows = length (a .slots .now) in
+    let sides = 2 * length (a .forward .now) in
+    c .table-fits .result && ((eqb (a .labels) rows && eqb (a .q) rows) && (eqb (a .keys) sides && eqb (a .spare) sides))
+
+returns : tie.Need-returns
+returns c = rw (← c .before .table-short .ensures, not-true (question-1 (c .before)) (c .if1 .taken))
 
 returns-2 : tie.Need-returns-2
 returns-2 c =
-    let a = c .before .before .before .before .before .before .before .before .before .before .before .before .args in
-    wrong-length (tableOf (a .forward .now) (a .reverse .now) (a .forward-seen .now) (a .reverse-seen .now)) (a .bins) (a .slots .now) (a .labels) (a .keys) (a .spare) (a .q) _ _ (c .before .before .before .before .before .before .table-short .ensures) (c .before .before .before .before .before .short-enough .ensures)
-    (c .before .before .before .before .if1 .left) _ _ _ (c .before .before .before .table-fits .ensures) (c .before .before .two-per-slot .ensures) (c .before .one-per-row .ensures) (c .if2 .taken)
+    let one = c .before .before in
+    rw (← one .before .table-short .ensures, not-false (question-1 (one .before)) (one .if1 .left), ← c .before .table-fits .ensures, not-true (question-2 (c .before)) (c .if2 .taken))
 
 returns-3 : tie.Need-returns-3
 returns-3 c =
-    let a = c .before .before .before .before .before .before .before .before .before .before .before .before .before .before .args in
-    out-of-range (tableOf (a .forward .now) (a .reverse .now) (a .forward-seen .now) (a .reverse-seen .now)) (a .bins) (a .slots .now) (a .labels) (a .keys) (a .spare) (a .q) _ _ (c .before .before .before .before .before .before .before .before .table-short .ensures) (c .before .before .before .before .before .before .before .short-enough .ensures)
-    (c .before .before .before .before .before .before .if1 .left) _ _ _ (c .before .before .before .before .before .table-fits .ensures) (c .before .before .before .before .two-per-slot .ensures) (c .before .before .before .one-per-row .ensures)
-    (c .before .before .if2 .left) _ (c .before .in-range .ensures) (c .if3 .taken)
+    let two = c .before .before in
+    let one = two .before .before in
+    rw (
+      ← one .before .table-short .ensures,
+      not-false (question-1 (one .before)) (one .if1 .left),
+      ← two .before .table-fits .ensures,
+      not-false (question-2 (two .before)) (two .if2 .left),
+      ← c .before .in-range .ensures,
+      not-true (c .before .in-range .result) (c .if3 .taken),
+    )
 
 returns-4 : tie.Need-returns-4
 returns-4 c =
-    let a = c .before .before .before .before .before .before .before .before .before .before .before .before .before .before .before .before .args in
-    no-such-slot (tableOf (a .forward .now) (a .reverse .now) (a .forward-seen .now) (a .reverse-seen .now)) (a .bins) (a .slots .now) (a .labels) (a .keys) (a .spare) (a .q) _ _ (c .before .before .before .before .before .before .before .before .before .before .table-short .ensures) (c .before .before .before .before .before .before .before .before .before .short-enough .ensures)
-    (c .before .before .before .before .before .before .before .before .if1 .left) _ _ _ (c .before .before .before .before .before .before .before .table-fits .ensures) (c .before .before .before .before .before .before .two-per-slot .ensures) (c .before .before .before .before .before .one-per-row .ensures)
-    (c .before .before .before .before .if2 .left) _ (c .before .before .before .in-range .ensures) (c .before .before .if3 .left) _ (c .before .slots-allowed .ensures) (c .if4 .taken)
+    let three = c .before .before in
+    let two = three .before .before in
+    let one = two .before .before in
+    rw (
+      ← one .before .table-short .ensures,
+      not-false (question-1 (one .before)) (one .if1 .left),
+      ← two .before .table-fits .ensures,
+      not-false (question-2 (two .before)) (two .if2 .left),
+      ← three .before .in-range .ensures,
+      not-false (three .before .in-range .result) (three .if3 .left),
+      ← c .before .slots-allowed .ensures,
+      not-true (c .before .slots-allowed .result) (c .if4 .taken),
+    )
 
 returns-5 : tie.Need-returns-5
 returns-5 c =
-    let a = c .before .before .before .before .before .before .before .before .before .before .before .before .before .before .before .before .args in
-    accepted (tableOf (a .forward .now) (a .reverse .now) (a .forward-seen .now) (a .reverse-seen .now)) (a .bins) (a .slots .now) (a .labels) (a .keys) (a .spare) (a .q) _ _ (c .before .before .before .before .before .before .before .before .before .before .table-short .ensures) (c .before .before .before .before .before .before .before .before .before .short-enough .ensures)
-    (c .before .before .before .before .before .before .before .before .if1 .left) _ _ _ (c .before .before .before .before .before .before .before .table-fits .ensures) (c .before .before .before .before .before .before .two-per-slot .ensures) (c .before .before .before .before .before .one-per-row .ensures)
-    (c .before .before .before .before .if2 .left) _ (c .before .before .before .in-range .ensures) (c .before .before .if3 .left) _ (c .before .slots-allowed .ensures) (c .if4 .left)
+    let three = c .before .before in
+    let two = three .before .before in
+    let one = two .before .before in
+    rw (
+      ← one .before .table-short .ensures,
+      not-false (question-1 (one .before)) (one .if1 .left),
+      ← two .before .table-fits .ensures,
+      not-false (question-2 (two .before)) (two .if2 .left),
+      ← three .before .in-range .ensures,
+      not-false (three .before .in-range .result) (three .if3 .left),
+      ← c .before .slots-allowed .ensures,
+      not-false (c .before .slots-allowed .result) (c .if4 .left),
+    )
 
 pub ask-spec : {M : Type 1} → statement M
 ask-spec =
     tie.close
     (tie.spec
     (λ c κs. search needs)
-    (λ c κs. search needs)
     returns
-    (λ c κs. search needs)
-    two-per-slot-requires
+    (λ c. search needs)
     (λ c κs. search needs)
     returns-2
     (λ c κs. search needs)

@@ -1,5 +1,5 @@
--- `floats::f32_to_u64` is Rust's `as u64`: an f32 at the wider format is the same number, so the conversion is that of the f64.
--- The answer is the f64's contract, read at that number.
+-- `floats::f32_to_u64` is Rust's `as u64`: an f32 at the wider format is the same number, so the conversion is that of
+-- the f64. The answer is the f64's contract, read at that number.
 use mathlib.Core.Path.{_∙_, ap}
 use lib.Ieee.{toUnsigned}
 use borrow.Author.Needs.{needs}

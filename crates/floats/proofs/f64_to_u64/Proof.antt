@@ -1,5 +1,5 @@
--- `floats::f64_to_u64` is Rust's `as u64`: between its two tests the conversion of std answers, and at each end a law of Convert.
--- The tests give their numbers by bits, which compute under `unfolding ofBits neg`.
+-- `floats::f64_to_u64` is Rust's `as u64`: between its two tests the conversion of std answers, and at each end a law
+-- of Convert. The tests give their numbers by bits, which compute under `unfolding ofBits neg`.
 use mathlib.Core.Path.{sym}
 use lib.Ieee.{ofBits, neg}
 use denote.Floats.{passes}

@@ -1,5 +1,5 @@
--- `floats::floor_f32` is `floored`: x itself past either limit, and between them what the law `cut` says of the three answers.
--- The tests give their numbers by bits, which compute under `unfolding ofBits neg`.
+-- `floats::floor_f32` is `floored`: x itself past either limit, and between them what the law `cut` says of the three
+-- answers. The tests give their numbers by bits, which compute under `unfolding ofBits neg`.
 use mathlib.Core.Path.{_∙_}
 use mir.Syntax.{w64}
 use mir.Val.{toZ, ofZ}

@@ -1,5 +1,5 @@
--- `floats::narrow` meets its contract: the bits below the sign are the magnitude's, what `nearest_f32` makes of it is the magnitude
--- converted, and the sign's bit on top makes that the argument converted.
+-- `floats::narrow` meets its contract: the bits below the sign are the magnitude's, what `nearest_f32` makes of it is
+-- the magnitude converted, and the sign's bit on top makes that the argument converted.
 use mathlib.Core.Path.{_≡_, sym, ap, _∙_, subst}
 use mathlib.Core.Bool.{Bool, not, cond, _&&_, true, false}
 use Prim.Native.Nat.{ℕ, _+_, _-_, _%_, _<_}
@@ -42,19 +42,19 @@ nearest-f32-requires c κs =
 
 -- what comes back: the magnitude converted, which has no minus sign and is a number
 module _ (c : tie.After-nearest-f32) where
-  came : c .nearest-f32 .result ≡ converted binary32 (absolute (c .before .before .args .x))
-  came = c .nearest-f32 .ensures ∙ ap (converted binary32) (passed (c .before))
+  nearest : c .nearest-f32 .result ≡ converted binary32 (absolute (c .before .before .args .x))
+  nearest = c .nearest-f32 .ensures ∙ ap (converted binary32) (passed (c .before))
 
-  came-number : T (not (isNan (c .nearest-f32 .result)))
-  came-number =
-      subst (λ (y : Float). T (not (isNan y))) (sym came)
+  nearest-number : T (not (isNan (c .nearest-f32 .result)))
+  nearest-number =
+      subst (λ (y : Float). T (not (isNan y))) (sym nearest)
       (converted-not-nan binary32 (absolute (c .before .before .args .x)) (absolute-number (c .before .before .args .x) (number (c .before))))
 
-  came-plus : negative (c .nearest-f32 .result) ≡ false
-  came-plus = ap negative came ∙ converted-sign binary32 (absolute (c .before .before .args .x)) ∙ absolute-plus (c .before .before .args .x)
+  nearest-plus : negative (c .nearest-f32 .result) ≡ false
+  nearest-plus = ap negative nearest ∙ converted-sign binary32 (absolute (c .before .before .args .x)) ∙ absolute-plus (c .before .before .args .x)
 
-  came-fits : T (fits binary32 (c .nearest-f32 .result))
-  came-fits = subst (λ (y : Float). T (fits binary32 y)) (sym came) (converted-fits binary32 (absolute (c .before .before .args .x)))
+  nearest-fits : T (fits binary32 (c .nearest-f32 .result))
+  nearest-fits = subst (λ (y : Float). T (fits binary32 y)) (sym nearest) (converted-fits binary32 (absolute (c .before .before .args .x)))
 
   -- the bits with the sign's on top are those of the argument converted
   signed : ofBits binary64 (toBits binary64 (c .nearest-f32 .result)
@@ -64,15 +64,15 @@ module _ (c : tie.After-nearest-f32) where
       let x = c .before .before .args .x in
       let y = c .nearest-f32 .result in
       ap (ofBits binary64)
-      (ap (λ (s : ℕ). toBits binary64 y + s) (sign-part x (passes _ (c .before .before .good .0 .1))) ∙ sign-on (negative x) y came-number came-plus)
+      (ap (λ (s : ℕ). toBits binary64 y + s) (sign-part x (passes _ (c .before .before .good .0 .1))) ∙ sign-on (negative x) y nearest-number nearest-plus)
       ∙ ofBits-toBits binary64 (cond (negative x) (neg y) y)
-      (cond-fits binary64 (negative x) (neg y) y (neg-fits binary64 y (fits-widens y came-fits)) (fits-widens y came-fits))
-      ∙ ap (λ (z : Float). cond (negative x) (neg z) z) came
+      (cond-fits binary64 (negative x) (neg y) y (neg-fits binary64 y (fits-widens y nearest-fits)) (fits-widens y nearest-fits))
+      ∙ ap (λ (z : Float). cond (negative x) (neg z) z) nearest
       ∙ resigned x
 
 add-result : tie.Need-add-result
 add-result c =
-    omega (arith, magnitude-bits (c .nearest-f32 .result) (fits-widens (c .nearest-f32 .result) (came-fits c)) (came-plus c), sign-small c)
+    omega (arith, magnitude-bits (c .nearest-f32 .result) (fits-widens (c .nearest-f32 .result) (nearest-fits c)) (nearest-plus c), sign-small c)
   where
     sign-small : (c : tie.After-nearest-f32) → toBits binary64 (c .before .before .args .x) - toBits binary64 (c .before .before .args .x) % 9223372036854775808 < 9223372036854775809
     sign-small c =
@@ -101,7 +101,7 @@ narrow-spec =
     number
     float-from-bits-nearest-f32
     nearest-f32-requires
-    came-number
+    nearest-number
     (λ c. search needs)
     add-result
     float-from-bits-result

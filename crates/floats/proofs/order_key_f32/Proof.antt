@@ -1,4 +1,5 @@
--- `floats::order_key_f32` meets its contract: the key is `key-nan`'s or `key-split`'s, and nothing wraps (`signed-fits`).
+-- `floats::order_key_f32` meets its contract: the key is `key-nan`'s or `key-split`'s, and nothing wraps
+-- (`signed-fits`).
 use borrow.Author.Needs.{needs}
 use mathlib.Core.Path.{sym}
 use lib.Dec.{T}

@@ -1,5 +1,5 @@
--- `floats::total_cmp_f64` meets its contract: its tests are those of `ranked` on the two keys, and `compared-by-key` says that
--- the floats stand so.
+-- `floats::total_cmp_f64` meets its contract: its tests are those of `ranked` on the two keys, and `compared-by-key`
+-- says that the floats stand so.
 use borrow.Author.Tests.{lt-ltb, le-ltb}
 use mathlib.Core.Path.{_≡_}
 use lib.Ieee.{binary64}

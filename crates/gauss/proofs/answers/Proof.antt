@@ -1,4 +1,5 @@
--- `gauss::answers` meets its contract. The loop is the walk of `values`, from the row of zeros; the measure is what is left of the size.
+-- `gauss::answers` meets its contract. The loop is the walk of `values`, from the row of zeros; the measure is what is
+-- left of the size.
 use Prim.Native.Nat.{_-_}
 use lib.ListN.{set}
 use Rattle.folds.proofs.Walks.{Walk, start, step, done}

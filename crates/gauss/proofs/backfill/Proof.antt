@@ -1,21 +1,21 @@
--- `gauss::backfill` meets its contract. The rows are walked from the last up (`WalkDown`), each along its columns (`Along`) until the first nonzero
--- entry; the measures are the rows and the columns left.
+-- `gauss::backfill` meets its contract. The rows are walked from the last up (`WalkDown`), each along its columns
+-- (`RowWalk`) until the first nonzero entry; the measures are the rows and the columns left.
 use Prim.Native.Nat.{_-_}
 use Rattle.folds.proofs.Walks.{WalkDown, walk-down-start, walk-down-done}
-use Rattle.gauss.proofs.Rows.{Along, along-start, along-step, none-found, found}
-use Rattle.gauss.specs.Elimination.{atFirst, clearedAbove, backfilled}
+use Rattle.gauss.proofs.Rows.{RowWalk, row-walk-start, row-walk-step, none-found, found}
+use Rattle.gauss.specs.Elimination.{atFirstNonzero, clearedAbove, backfilled}
 use borrow.Author.Needs.{needs}
 use Rattle.gauss.proofs.backfill.Statement.{statement}
 use Rattle.gauss.proofs.backfill.Tie as tie
 
 abbrev Inv-loop : tie.InvT-loop
-Inv-loop size m₀ i j₀ m j = Along size i j m₀ m
+Inv-loop size m₀ i j₀ m j = RowWalk size i j m₀ m
 
 abbrev μ-loop : tie.MeasureT-loop
 μ-loop size m₀ i j₀ m j = size - j
 
 abbrev Inv-rows : tie.InvT-rows
-Inv-rows size m₀ i₀ m i = WalkDown (atFirst (clearedAbove size) size) i size m₀ m
+Inv-rows size m₀ i₀ m i = WalkDown (atFirstNonzero (clearedAbove size) size) i size m₀ m
 
 abbrev μ-rows : tie.MeasureT-rows
 μ-rows size m₀ i₀ m i = i
@@ -24,7 +24,7 @@ rows-holds : tie.Need-rows-holds Inv-loop μ-loop Inv-rows μ-rows
 rows-holds c = walk-down-start
 
 loop-holds : tie.Need-loop-holds Inv-loop μ-loop Inv-rows μ-rows
-loop-holds c = along-start (search needs)
+loop-holds c = row-walk-start (search needs)
 
 rows-again : tie.Need-rows-again Inv-loop μ-loop Inv-rows μ-rows
 rows-again c =
@@ -32,7 +32,7 @@ rows-again c =
     none-found (clearedAbove (rows .before .args .size)) (c .before .loop .inv) (rows .rows .inv) (search needs) (search needs)
 
 loop-again : tie.Need-loop-again Inv-loop μ-loop Inv-rows μ-rows
-loop-again c = along-step (c .before .before .before .loop .inv) (search needs) (c .if1 .taken)
+loop-again c = row-walk-step (c .before .before .before .loop .inv) (search needs) (c .if1 .taken)
 
 rows-again-2 : tie.Need-rows-again-2 Inv-loop μ-loop Inv-rows μ-rows
 rows-again-2 c =

@@ -1,13 +1,14 @@
--- `gauss::clear_above` meets its contract. The loop is the walk of `clearedAbove` over the rows above i; the measure is what is left of them.
+-- `gauss::clear_above` meets its contract. The loop is the walk of `clearedAbove` over the rows above i; the measure is
+-- what is left of them.
 use Prim.Native.Nat.{_-_}
 use Rattle.folds.proofs.Walks.{Walk, start, step-by, done}
-use Rattle.gauss.specs.Elimination.{clearUp, clearedAbove}
+use Rattle.gauss.specs.Elimination.{clearRowAbove, clearedAbove}
 use borrow.Author.Needs.{needs}
 use Rattle.gauss.proofs.clear_above.Statement.{statement}
 use Rattle.gauss.proofs.clear_above.Tie as tie
 
 abbrev Inv-loop : tie.InvT-loop
-Inv-loop m₀ size i j p k₀ m k = Walk (clearUp p size j) 0 k i m₀ m
+Inv-loop m₀ size i j p k₀ m k = Walk (clearRowAbove p size j) 0 k i m₀ m
 
 abbrev μ-loop : tie.MeasureT-loop
 μ-loop m₀ size i j p k₀ m k = i - k

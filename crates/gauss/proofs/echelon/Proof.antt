@@ -1,16 +1,16 @@
--- `gauss::echelon` meets its contract. The loop is the walk of `echeloned` over the columns, with h and the table for its state, and h is at most
--- k; the measure is what is left of the size.
+-- `gauss::echelon` meets its contract. The loop is the walk of `echeloned` over the columns, with h and the table for
+-- its state, and h is at most k; the measure is what is left of the size.
 use Prim.Native.Nat.{ℕ, _-_, _≤_}
 use mathlib.Core.Path.{ap}
 use Rattle.folds.proofs.Walks.{Walk, start, step-by, done}
-use Rattle.gauss.specs.Elimination.{Matrix, column, echeloned}
+use Rattle.gauss.specs.Elimination.{Matrix, echelonColumn, echeloned}
 use Rattle.gauss.proofs.Tables.{skipped, pivoted}
 use borrow.Author.Needs.{needs}
 use Rattle.gauss.proofs.echelon.Statement.{statement}
 use Rattle.gauss.proofs.echelon.Tie as tie
 
 abbrev Inv-loop : tie.InvT-loop
-Inv-loop size m₀ h₀ k₀ m h k = Walk (column size) 0 k size (h₀, m₀) (h, m) × (h ≤ k)
+Inv-loop size m₀ h₀ k₀ m h k = Walk (echelonColumn size) 0 k size (h₀, m₀) (h, m) × (h ≤ k)
 
 abbrev μ-loop : tie.MeasureT-loop
 μ-loop size m₀ h₀ k₀ m h k = size - k

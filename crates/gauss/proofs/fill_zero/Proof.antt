@@ -1,13 +1,14 @@
--- `gauss::fill_zero` meets its contract. The loop is the walk of `diagonalFilled`; the measure is what is left of the size.
+-- `gauss::fill_zero` meets its contract. The loop is the walk of `diagonalFilled`; the measure is what is left of the
+-- size.
 use Prim.Native.Nat.{_-_}
 use Rattle.folds.proofs.Walks.{Walk, start, step, done}
-use Rattle.gauss.specs.Elimination.{fill, diagonalFilled}
+use Rattle.gauss.specs.Elimination.{addEps, diagonalFilled}
 use borrow.Author.Needs.{needs}
 use Rattle.gauss.proofs.fill_zero.Statement.{statement}
 use Rattle.gauss.proofs.fill_zero.Tie as tie
 
 abbrev Inv-loop : tie.InvT-loop
-Inv-loop size eps m₀ i₀ m i = Walk (fill eps) 0 i size m₀ m
+Inv-loop size eps m₀ i₀ m i = Walk (addEps eps) 0 i size m₀ m
 
 abbrev μ-loop : tie.MeasureT-loop
 μ-loop size eps m₀ i₀ m i = size - i

@@ -1,17 +1,18 @@
--- `gauss::join` meets its contract. Both loops are walks: over the rows of `joined`, and along a row; the measures are what is left of the size.
+-- `gauss::join` meets its contract. Both loops are walks: over the rows of `joined`, and along a row; the measures are
+-- what is left of the size.
 use Prim.Native.Nat.{_-_}
 use mathlib.Core.Path.{ap}
 use lib.ListN.{getD}
 use lib.Ieee.{nan}
 use Rattle.folds.proofs.Walks.{Walk, start, step, step-by, done}
-use Rattle.gauss.specs.Elimination.{entry, put}
+use Rattle.gauss.specs.Elimination.{entry, setEntry}
 use Rattle.gauss.specs.Solutions.{joinRow, joined}
 use borrow.Author.Needs.{needs}
 use Rattle.gauss.proofs.join.Statement.{statement}
 use Rattle.gauss.proofs.join.Tie as tie
 
 abbrev Inv-loop2 : tie.InvT-loop2
-Inv-loop2 size left right m₀ i j₀ m j = Walk (λ j. put i j (entry left i j)) 0 j size m₀ m
+Inv-loop2 size left right m₀ i j₀ m j = Walk (λ j. setEntry i j (entry left i j)) 0 j size m₀ m
 
 abbrev μ-loop2 : tie.MeasureT-loop2
 μ-loop2 size left right m₀ i j₀ m j = size - j
@@ -35,7 +36,7 @@ loop-again : tie.Need-loop-again Inv-loop2 μ-loop2 Inv-loop μ-loop
 loop-again c =
     let w = c .before .before .before .loop in
     let right = c .before .before .before .before .args .t2 in
-    step-by (w .inv) (search needs) (ap (put (w .i) 20 (getD right (w .i) nan)) (done (c .before .loop2 .inv) (search needs)))
+    step-by (w .inv) (search needs) (ap (setEntry (w .i) 20 (getD right (w .i) nan)) (done (c .before .loop2 .inv) (search needs)))
 
 returns : tie.Need-returns Inv-loop2 μ-loop2 Inv-loop μ-loop
 unfolding joined

@@ -1,4 +1,5 @@
--- `gauss::left_solved` meets its contract. The invariants (`Passing`): every row, and every entry of the row, before this one passes.
+-- `gauss::left_solved` meets its contract. The invariants (`Passing`): every row, and every entry of the row, before
+-- this one passes.
 use mathlib.Core.Path.{sym, _∙_}
 use borrow.Author.Tests.{not-true, not-false}
 use Rattle.gauss.specs.Elimination.{entry, solvedAt, solvedRow, leftSolved}

@@ -1,5 +1,5 @@
--- `gauss::pivot_row` meets its contract. The loop is the walk of `pivotRow` from row h, and the row picked is below the size; the measure is
--- what is left of the size.
+-- `gauss::pivot_row` meets its contract. The loop is the walk of `pivotRow` from row h, and the row picked is below the
+-- size; the measure is what is left of the size.
 use Prim.Native.Nat.{_<_, _-_}
 use mathlib.Core.Path.{ap}
 use Rattle.gauss.specs.declared.Pivot.{Pivot}

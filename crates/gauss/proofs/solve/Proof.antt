@@ -1,5 +1,5 @@
--- `gauss::solve` meets its contract. The invariant (`Trying`): eps is that of some try, and no try before it solves the system; the measure is
--- how many tries are left.
+-- `gauss::solve` meets its contract. The invariant (`Trying`): eps is that of some try, and no try before it solves the
+-- system; the measure is how many tries are left.
 use Rattle.gauss.proofs.Epsilons.{triesLeft}
 use Rattle.gauss.proofs.Solving.{Trying, trying-start, trying-step, trying-less, trying-found, trying-none, in-range, size-zero, size-large}
 use mathlib.Core.Path.{_≡_}

@@ -1,4 +1,5 @@
--- `gauss::swap_rows` meets its contract: with one row for both the table is its own exchange, and else the code is the definition.
+-- `gauss::swap_rows` meets its contract: with one row for both the table is its own exchange, and else the code is the
+-- definition.
 use Rattle.gauss.proofs.Tables.{swapped-same}
 use borrow.Author.Needs.{needs}
 use Rattle.gauss.proofs.swap_rows.Statement.{statement}

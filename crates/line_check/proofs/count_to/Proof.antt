@@ -1,4 +1,5 @@
--- `line_check::count_to` meets its contract: the counts of a row are those of the row before and the label's test (`Tally`).
+-- `line_check::count_to` meets its contract: the counts of a row are those of the row before and the label's test
+-- (`Tally`).
 use Prim.Native.Nat.{_-_, _≤_}
 use native.Mathlib.Omega.{arith}
 use borrow.Author.Needs.{needs}

@@ -1,22 +1,28 @@
--- `qvalue::spectrum_q_value` meets its contract: each way that it can go is a law of `Spectrum`, at what its callees give.
+-- `qvalue::spectrum_q_value` meets its contract: the questions' answer picks what is answered and left.
+use mathlib.Core.Path.{sym, _∙_}
 use borrow.Author.Needs.{needs}
 use lib.Ieee.{ofBits, div}
-use Rattle.qvalue.proofs.Spectrum.{too-long, wrong-length, accepted}
+use Rattle.counting.specs.QValues.{qValues}
+use Rattle.columns.proofs.Questions.{if-accepted, if-refused}
+use Rattle.qvalue.specs.Spectrum.{spectrumQValue}
+use Rattle.qvalue.proofs.Questions.{lengths}
 use Rattle.qvalue.proofs.spectrum_q_value.Statement.{statement}
 use Rattle.qvalue.proofs.spectrum_q_value.Tie as tie
 
+write-ratios-requires : tie.Need-write-ratios-requires
+write-ratios-requires c κs = lengths _ _ (sym (c .before .before .before .ask .ensures) ∙ c .before .enum-told .given .1)
+
 returns : tie.Need-returns
-unfolding div ofBits
-returns c = too-long _ _ (search needs) (c .before .before .refused .ensures)
+unfolding spectrumQValue ofBits div
+returns c =
+    rw (c .before .before .fill-f32 .ensures)
+    (sym (if-refused _ _ (sym (c .before .before .before .before .before .before .before .ask .ensures) ∙ c .before .before .before .before .before .refusal .given .1)))
 
 returns-2 : tie.Need-returns-2
-unfolding div ofBits
-returns-2 c = wrong-length _ _ (search needs) (search needs) (c .before .before .refused2 .ensures)
-
-returns-3 : tie.Need-returns-3
-returns-3 c =
-    accepted _ _ (search needs) (search needs) (c .before .before .before .before .before .before .write-ratios .ensures)
-    (c .before .before .take-minima .ensures)
+unfolding spectrumQValue qValues
+returns-2 c =
+    rw (c .before .before .take-minima .ensures .0, c .before .before .take-minima .ensures .1, c .before .before .before .before .before .before .write-ratios .ensures)
+    (sym (if-accepted _ _ (sym (c .before .before .before .before .before .before .before .before .before .before .ask .ensures) ∙ c .before .before .before .before .before .before .before .before .enum-told .given .1)))
 
 pub spectrum-q-value-spec : {M : Type 1} → statement M
 spectrum-q-value-spec =
@@ -24,11 +30,11 @@ spectrum-q-value-spec =
     (tie.spec
     (λ c κs. search needs)
     (λ c. search needs)
+    (λ c κs. search needs)
+    (λ c. search needs)
+    write-ratios-requires
+    (λ c κs. search needs)
+    (λ c. search needs)
     returns
-    (λ c κs. search needs)
     (λ c. search needs)
-    returns-2
-    (λ c κs. search needs)
-    (λ c κs. search needs)
-    (λ c. search needs)
-    returns-3)
+    returns-2)

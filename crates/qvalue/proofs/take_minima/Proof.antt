@@ -1,5 +1,5 @@
--- `qvalue::take_minima` meets its contract: from the place down, the column holds the least of 1.0 and what stood there and after it, and those
--- at most 0.01 are counted (`MinimumWalk`).
+-- `qvalue::take_minima` meets its contract: from the place down, the column holds the least of 1.0 and what stood there
+-- and after it, and those at most 0.01 are counted (`MinimumWalk`).
 use native.Mathlib.Omega.{arith}
 use borrow.Author.Needs.{needs}
 use lib.Ieee.{binary32, ofBits, le}

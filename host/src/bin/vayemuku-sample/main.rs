@@ -1,7 +1,8 @@
 //! Makes two tables in the shape of sage's results table, from a fixed seed: the same bytes on every machine.
 //!
-//! `good.tsv` is a batch of 20,000 rows that rescores well. In `refused.tsv` one row of 2,000 has an infinite
-//! matched_intensity_pct, as sage writes it where matched peaks have an intensity and the spectrum has none: no fit is found.
+//! `good.tsv` is a batch of 20,000 rows that can be rescored. In `refused.tsv` one row of 2,000 has an infinite
+//! matched_intensity_pct, as sage writes it where matched peaks have an intensity and the spectrum has none: no fit is
+//! found.
 
 mod random;
 mod rows;
@@ -12,7 +13,7 @@ use std::io::{BufWriter, Write};
 use std::path::Path;
 use std::process::ExitCode;
 
-/// The rows of the batch that rescores well.
+/// The rows of the batch that can be rescored.
 const GOOD: usize = 20_000;
 
 /// The rows of the batch whose fit refuses.
@@ -21,7 +22,7 @@ const REFUSED: usize = 2_000;
 /// The row, from 1, of `refused.tsv` that has no finite intensity.
 const BROKEN: usize = 1_234;
 
-/// Writes a batch of so many rows; the row `broken` has an infinite matched_intensity_pct.
+/// Writes a batch of `count` rows; the row `broken` has an infinite matched_intensity_pct.
 fn batch(path: &Path, seed: u64, count: usize, broken: usize) -> std::io::Result<()> {
     let mut random = Random::new(seed);
     let mut file = BufWriter::new(std::fs::File::create(path)?);

@@ -204,7 +204,7 @@ fn scores(random: &mut Random, looks: &Looks, length: usize, put: &mut impl FnMu
     put("ms2_intensity", single(random.between(1E4, 1E7)));
 }
 
-/// The log10 of the probability of so many peaks; one in 2,000 could not be computed, as sage has it.
+/// The log10 of the probability of this number of peaks; for one in 2,000 sage could not compute it.
 fn poisson(random: &mut Random, peaks: usize) -> String {
     match random.below(2_000) {
         0 => "-inf".to_string(),
@@ -225,7 +225,7 @@ fn times(random: &mut Random, looks: &Looks, put: &mut impl FnMut(&str, String))
     put("delta_mobility", "0.999".to_string());
 }
 
-/// What an earlier run left: a score that looks well, and q-values that pass.
+/// The results of an earlier run: a plausible score, and q-values that pass.
 fn stored(looks: &Looks, put: &mut impl FnMut(&str, String)) {
     put("sage_discriminant_score", single(0.1 * looks.hyperscore));
     put("posterior_error", "-5.0".to_string());

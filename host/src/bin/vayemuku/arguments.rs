@@ -22,7 +22,7 @@ vayemuku check LIST.tsv --line N [--rate 100|20]
 
 vayemuku help | version
 
-Status: 0 all is well; 1 the line or the q-values are wrong; 2 the command line means nothing; 3 a file cannot be read
+Status: 0 all is well; 1 the line or the q-values are wrong; 2 the command line is not valid; 3 a file cannot be read
 or written, or holds what it should not: no list was written; or standard output cannot be written; 4 a call refused: a
 list was written with every fresh column empty (rescore), or the line is past the list (check).";
 
@@ -73,21 +73,21 @@ impl Command {
     }
 }
 
-/// The options of rescore, and whether a word follows each.
+/// The options of rescore, and whether each is followed by a value.
 const RESCORE: [(&str, bool); 5] =
     [("--tolerance", true), ("--batch", true), ("--decoy-tag", true), ("--fasta-decoys", false), ("--progress", false)];
 
 /// The options of check.
 const CHECK: [(&str, bool); 2] = [("--line", true), ("--rate", true)];
 
-/// Words apart: files, and options with the word that follows.
+/// The words of a command: its files, and its options with their values.
 struct Words {
     files: Vec<PathBuf>,
     options: Vec<(&'static str, String)>,
 }
 
 impl Words {
-    /// Takes options out of the words.
+    /// Separates the options from the files.
     fn sorted(words: &[OsString], known: &[(&'static str, bool)]) -> Result<Words, Problem> {
         let mut words = words.iter();
         let mut sorted = Words { files: Vec::new(), options: Vec::new() };
@@ -117,7 +117,7 @@ impl Words {
         Ok(sorted)
     }
 
-    /// What follows an option, if it is given.
+    /// The value of an option, if it is given.
     fn option(&self, name: &str) -> Option<&str> {
         self.options.iter().find(|(given, _)| *given == name).map(|(_, value)| value.as_str())
     }
@@ -174,7 +174,7 @@ impl Check {
     }
 }
 
-/// A tolerance in words.
+/// The tolerance that words name.
 fn tolerance(words: &str) -> Result<Tolerance, Problem> {
     let parts: Vec<&str> = words.split(':').collect();
     let end = |part: usize| parts.get(part)?.parse().ok().filter(|end: &f32| end.is_finite());
@@ -192,7 +192,7 @@ fn tolerance(words: &str) -> Result<Tolerance, Problem> {
     }
 }
 
-/// That words are no tolerance.
+/// The problem of words that are no tolerance.
 fn no_tolerance<T>(words: &str) -> Result<T, Problem> {
     usage(format!("--tolerance takes ppm:LO:HI or da:LO:HI, and not '{words}'"))
 }

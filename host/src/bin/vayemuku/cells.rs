@@ -1,10 +1,10 @@
-//! What a cell of a table holds.
+//! The contents of a table's cells.
 
 use std::fmt::Display;
 
 /// A number that a cell can hold.
 pub trait Cell: Sized {
-    /// What a cell is that holds none.
+    /// What an error says of a cell that holds none.
     const NONE: &'static str;
 
     /// The number that the text is.
@@ -27,7 +27,8 @@ impl Cell for f32 {
     }
 }
 
-/// Whether a text that is read as no finite number is an infinity by its own words, and not a NaN or a number past the width.
+/// Whether a text that is parsed as no finite number names an infinity, and is not a NaN or a number too large for the
+/// type.
 fn is_infinity(text: &str) -> bool {
     let word = text.trim_start_matches(['+', '-']);
     word.eq_ignore_ascii_case("inf") || word.eq_ignore_ascii_case("infinity")
@@ -82,7 +83,7 @@ mod tests {
     use super::*;
 
     #[test]
-    fn numbers_and_what_is_none() {
+    fn numbers_and_texts_that_are_none() {
         assert_eq!(number::<f64>("x", b"-inf"), Ok(f64::NEG_INFINITY));
         assert_eq!(number::<f32>("x", b"1e-3"), Ok(0.001));
         assert_eq!(number::<f32>("x", b"-inf"), Ok(f32::NEG_INFINITY));

@@ -3,47 +3,40 @@
 use crate::arguments::Check;
 use crate::cells::{number, Label};
 use crate::problem::{say, Problem};
-use crate::table::{place, Table};
-use vayemuku::rescoring::{order, Refused};
-use vayemuku::{check_line, spectrum_q_value, Line, QValues, Rate};
+use crate::results_table::{place, ResultsTable};
+use vayemuku::{check_line, order, spectrum_q_value, Line, QValues};
 
-/// What is read of a list.
+/// The columns of a list that are read.
 struct Columns {
     labels: Vec<i32>,
     scores: Vec<f64>,
     q: Vec<f32>,
 }
 
-/// Checks a line and the q-values of a list; Ok tells whether both are right.
+/// Checks a line and the q-values of a list; Ok says whether both are right.
 pub fn run(job: &Check) -> Result<bool, Problem> {
-    let table = Table::read(&job.list)?;
+    let table = ResultsTable::read(&job.list)?;
     let columns = read(&table)?;
     let order = order(&columns.scores).map_err(|refused| Problem::refused(table.name(), refused))?;
     let labels: Vec<i32> = order.iter().map(|&row| columns.labels[row]).collect();
     let line = answer(job, &table, &labels)?;
-    let q = spectrum_q_value(&labels)
-        .map_err(|refusal| Problem::refused(table.name(), Refused { call: "vayemuku_spectrum_q_value", refusal }))?;
-    say(format!("list      {}: {} rows, {}", table.name(), table.rows(), standing(&order)))?;
+    let q = spectrum_q_value(&labels).map_err(|refused| Problem::refused(table.name(), refused))?;
+    say(format!("list      {}: {} rows, {}", table.name(), table.rows(), in_order(&order)))?;
     say(format!("line      {} at {} is {line}", job.line, job.rate))?;
     let wrong = wrong_q_values(&order, &columns, &q);
     say(format!("q-values  {}", wrong.as_deref().unwrap_or("each is what the counting rule gives")))?;
     Ok(matches!(line, Line::Right(_)) && wrong.is_none())
 }
 
-/// The answer to the line, of labels as ranked.
-fn answer(job: &Check, table: &Table, labels: &[i32]) -> Result<Line, Problem> {
-    let call = match job.rate {
-        Rate::OneIn100 => "vayemuku_check_line_100",
-        Rate::OneIn20 => "vayemuku_check_line_20",
-    };
-    check_line(job.rate, labels, job.line).map_err(|refusal| {
-        let why = Refused { call, refusal };
-        Problem::refused(table.name(), format!("row {}: {why}, which has {} rows", job.line, table.rows()))
+/// The line check's answer, of labels as ranked.
+fn answer(job: &Check, table: &ResultsTable, labels: &[i32]) -> Result<Line, Problem> {
+    check_line(labels, job.line, job.rate).map_err(|refused| {
+        Problem::refused(table.name(), format!("row {}: {refused}, which has {} rows", job.line, table.rows()))
     })
 }
 
 /// Reads the columns.
-fn read(table: &Table) -> Result<Columns, Problem> {
+fn read(table: &ResultsTable) -> Result<Columns, Problem> {
     let names = ["label", "sage_discriminant_score", "spectrum_q"];
     let mut places = [0; 3];
     for (place, name) in places.iter_mut().zip(names) {
@@ -62,8 +55,8 @@ fn read(table: &Table) -> Result<Columns, Problem> {
     Ok(columns)
 }
 
-/// Whether the rows stand as ranked.
-fn standing(order: &[usize]) -> String {
+/// Whether the rows are in the order of their ranks, in words.
+fn in_order(order: &[usize]) -> String {
     match order.iter().enumerate().find(|(rank, row)| rank != *row) {
         None => "which stand as ranked".to_string(),
         Some((rank, &row)) => format!("of which {} is ranked as {}", place(row + 1), rank + 1),

@@ -13,7 +13,7 @@ pub fn today() -> Result<String, Problem> {
     Ok(date(since.as_secs() / DAY))
 }
 
-/// The date so many days after 1970-01-01.
+/// The date that is `days` days after 1970-01-01.
 fn date(days: u64) -> String {
     let (mut year, mut left) = (1970, days);
     while left >= days_of(year) {

@@ -1,18 +1,18 @@
-//! A file that appears under its name only when it is whole.
+//! A file that gets its name only when it is complete.
 
 use crate::problem::Problem;
 use std::fs::File;
 use std::io::{BufWriter, Error, ErrorKind, Write};
 use std::path::{Path, PathBuf};
 
-/// A file under another name in the same folder, until it is finished; that name is removed in the end.
+/// A file that has another name in the same folder until it is finished; that name is then removed.
 pub struct Draft {
     file: BufWriter<File>,
     draft: PathBuf,
     path: PathBuf,
 }
 
-/// Refuses a path under which there is something.
+/// Err where the path exists.
 fn refuse_existing(path: &Path) -> Result<(), Error> {
     match path.symlink_metadata() {
         Ok(_) => Err(ErrorKind::AlreadyExists.into()),
@@ -30,7 +30,7 @@ fn unwritten(path: &Path, why: Error) -> Problem {
 }
 
 impl Draft {
-    /// Starts a file that will have this path, under which there is nothing yet.
+    /// Starts a file that will have this path, which does not exist yet.
     pub fn new(path: &Path) -> Result<Draft, Problem> {
         let opened = refuse_existing(path).and_then(|_| open(path));
         let (file, draft) = opened.map_err(|why| unwritten(path, why))?;
@@ -54,7 +54,7 @@ impl Draft {
     }
 }
 
-/// Gives a draft a name that nothing has. Where a folder allows no second name for a file, it is renamed.
+/// Gives a draft a name that does not exist yet. Where the folder allows no second name for a file, it is renamed.
 fn name(draft: &Path, path: &Path) -> Result<(), Error> {
     match std::fs::hard_link(draft, path) {
         Err(why) if why.kind() != ErrorKind::AlreadyExists => {
@@ -64,7 +64,7 @@ fn name(draft: &Path, path: &Path) -> Result<(), Error> {
     }
 }
 
-/// Opens a new file beside a path. A killed run can have left one under the same name: then the next is taken.
+/// Opens a new file beside a path. A killed run can have left one with the same name: then the next number is used.
 fn open(path: &Path) -> Result<(File, PathBuf), Error> {
     let mut next = std::process::id();
     loop {
@@ -78,7 +78,7 @@ fn open(path: &Path) -> Result<(File, PathBuf), Error> {
 
 impl Drop for Draft {
     fn drop(&mut self) {
-        // what is not there any more was renamed, and what cannot be removed is still no list
+        // a draft that is missing was renamed, and one that cannot be removed does not have the list's name
         let _ = std::fs::remove_file(&self.draft);
     }
 }
@@ -88,7 +88,7 @@ mod tests {
     use super::*;
 
     #[test]
-    fn a_name_that_was_taken_meanwhile_is_not_written_over() {
+    fn a_file_created_during_the_run_is_not_overwritten() {
         let folder = std::env::temp_dir().join(format!("vayemuku-draft-{}", std::process::id()));
         std::fs::create_dir(&folder).unwrap();
         let path = folder.join("out.tsv");

@@ -2,23 +2,23 @@
 
 use crate::problem::Problem;
 use crate::progress::Progress;
-use crate::table::Table;
+use crate::results_table::ResultsTable;
 use std::io::Write;
 use vayemuku::rescoring::Rescored;
 
 /// The columns that a run works out.
 const FRESH: [&str; 4] = ["sage_discriminant_score", "posterior_error", "spectrum_q", "protein_q"];
 
-/// What a run says of itself in every row.
+/// The columns that name the run, in every row.
 const STAMP: [&str; 2] = ["rescored_on", "batch"];
 
-/// Stored columns that go by the stored score and are not worked out: they are left out.
+/// Stored columns that depend on the stored score and are not worked out again: they are left out.
 const LEFT_OUT: [&str; 2] = ["peptide_q", "protein_group_q"];
 
 /// A list to write.
 pub struct List<'a> {
-    pub table: &'a Table,
-    /// None: every fresh column is empty, and the rows stand as in the table.
+    pub table: &'a ResultsTable,
+    /// None: every fresh column is empty, and the rows are in the order of the table.
     pub rescored: Option<&'a Rescored>,
     pub date: &'a str,
     pub batch: &'a str,
@@ -55,7 +55,7 @@ impl List<'_> {
         let mut cells = Vec::new();
         let count = self.table.rows();
         for place in 0..count {
-            progress.tell("rows written", place + 1, count);
+            progress.show("rows written", place + 1, count);
             let row = self.rescored.map_or(place, |rescored| rescored.order[place]);
             self.table.cells(row + 1, &mut cells)?;
             for &column in &kept {

@@ -1,4 +1,6 @@
-//! Rescores a stored table of sage's, and checks a list that is already out.
+//! Rescores a stored results table of sage's, and checks a list that is already out.
+
+#![forbid(unsafe_code)]
 
 mod arguments;
 mod cells;
@@ -11,13 +13,13 @@ mod progress;
 mod proteins;
 mod psms;
 mod rescore;
-mod table;
+mod results_table;
 
 use arguments::{Command, HELP};
 use problem::{say, Problem};
 use std::process::ExitCode;
 
-/// Runs a command; Ok tells whether all is as it should be.
+/// Runs a command; Ok(false) where a list or its line is wrong.
 fn run(command: Command) -> Result<bool, Problem> {
     match command {
         Command::Help => say(HELP).map(|_| true),
@@ -27,7 +29,8 @@ fn run(command: Command) -> Result<bool, Problem> {
     }
 }
 
-/// Ends with 0 where all is as it should be, 1 where a list or its line is wrong, and otherwise with the problem's status.
+/// Ends with 0 where all is as it should be, 1 where a list or its line is wrong, and otherwise with the problem's
+/// status.
 fn main() -> ExitCode {
     match Command::from_words(std::env::args_os().skip(1)).and_then(run) {
         Ok(true) => ExitCode::SUCCESS,

@@ -1,4 +1,4 @@
-//! What goes wrong: what standard error says, and a status.
+//! Problems: what standard error says, and the status.
 
 use std::fmt::Display;
 use std::io::{ErrorKind, Write};
@@ -7,11 +7,11 @@ use std::process::ExitCode;
 /// Why the program stops.
 #[derive(Debug, PartialEq)]
 pub enum Problem {
-    /// The words of the command line mean nothing: status 2.
+    /// The command line is not valid: status 2.
     Usage(String),
-    /// A file cannot be read or written, or holds what it should not: status 3.
+    /// A file cannot be read or written, or has wrong contents: status 3.
     File(String),
-    /// A call refused, and then the list could not be written: status 3; what was refused comes first.
+    /// A call refused, and then the list could not be written: status 3; the refusal comes first.
     Unwritten(Vec<String>),
     /// A call refused: status 4; lines may follow the first.
     Refused(Vec<String>),
@@ -23,18 +23,18 @@ impl Problem {
         Problem::File(format!("{name}: {why}"))
     }
 
-    /// A call's refusal, told of a file.
+    /// The refusal of a call, for a file.
     pub fn refused(name: &str, why: impl Display) -> Problem {
         Problem::Refused(vec![format!("{name}: {why}")])
     }
 
-    /// The problem of a list that could not be written after a call had refused, as these lines tell.
+    /// The problem of a list that could not be written after the refusal that these lines describe.
     pub fn after(self, mut refused: Vec<String>) -> Problem {
         refused.extend(self.lines());
         Problem::Unwritten(refused)
     }
 
-    /// What is told.
+    /// The lines on standard error.
     fn lines(self) -> Vec<String> {
         match self {
             Problem::Usage(why) => vec![format!("{why}; `vayemuku help` tells more")],
@@ -57,14 +57,14 @@ impl Problem {
 
 /// Writes a line on standard error.
 fn warn(line: impl Display) {
-    // there is no one left to tell
+    // where standard error cannot be written, nothing can be reported
     let _ = writeln!(std::io::stderr(), "vayemuku: {line}");
 }
 
 /// Writes a line on standard output.
 pub fn say(line: impl Display) -> Result<(), Problem> {
     match writeln!(std::io::stdout(), "{line}") {
-        // a reader that went away is not a problem
+        // a reader that has closed its end is not a problem
         Err(why) if why.kind() != ErrorKind::BrokenPipe => Err(Problem::with_file("standard output", why)),
         _ => Ok(()),
     }

@@ -1,17 +1,17 @@
-//! Tells how far a long job is.
+//! The progress of a long job, on standard error.
 
 use std::io::{IsTerminal, Write};
 use std::time::{Duration, Instant};
 
-/// How long a job on a terminal runs before it tells anything.
+/// How long a job on a terminal runs before it shows anything.
 const QUIET: Duration = Duration::from_secs(1);
 
-/// How long at least it is quiet between two lines.
+/// The least time between two lines on the same subject.
 const PAUSE: Duration = Duration::from_millis(250);
 
-/// What is told on standard error.
+/// The state of the progress line.
 pub struct Progress {
-    /// when the first line may be told; None: never
+    /// when the first line may be shown; None: never
     from: Option<Instant>,
     terminal: bool,
     last: Option<Instant>,
@@ -19,7 +19,7 @@ pub struct Progress {
 }
 
 impl Progress {
-    /// Tells from the start where that is asked for, and after a second on a terminal.
+    /// Shows progress from the start where that is asked for, and after a second on a terminal.
     pub fn new(asked: bool) -> Progress {
         let terminal = std::io::stderr().is_terminal();
         let now = Instant::now();
@@ -31,14 +31,14 @@ impl Progress {
         Progress { from, terminal, last: None, what: String::new() }
     }
 
-    /// Tells that so many of all are done, unless the last line is fresh and speaks of the same.
-    pub fn tell(&mut self, what: &str, done: usize, all: usize) {
+    /// Shows how many are done, unless the last line is recent and on the same subject.
+    pub fn show(&mut self, what: &str, done: usize, all: usize) {
         let Some(from) = self.from else {
             return;
         };
         let now = Instant::now();
-        let fresh = self.last.is_some_and(|last| now < last + PAUSE);
-        if now < from || fresh && what == self.what {
+        let recent = self.last.is_some_and(|last| now < last + PAUSE);
+        if now < from || recent && what == self.what {
             return;
         }
         self.last = Some(now);
@@ -56,7 +56,7 @@ impl Progress {
         };
     }
 
-    /// Takes the line off a terminal.
+    /// Clears the line on a terminal.
     pub fn finish(&mut self) {
         if self.terminal && self.last.take().is_some() {
             let _ = write!(std::io::stderr(), "\r\x1b[K");

@@ -8,7 +8,7 @@ use vayemuku::Names;
 pub enum Decoys {
     /// Sage generated them: a decoy is named as the protein that it was made from, with a tag before the name.
     Generated { tag: String },
-    /// They stand in the FASTA file under names of their own.
+    /// They are in the FASTA file, with names of their own.
     Fasta,
 }
 
@@ -21,7 +21,7 @@ impl Decoys {
         }
     }
 
-    /// What a row's protein competes under; None where several share the row, or where there is none.
+    /// The key under which a row's protein competes; None where several proteins share the row, or there is none.
     pub fn key<'a>(&self, label: i32, proteins: &'a [u8], num_proteins: u32) -> Result<Option<&'a [u8]>, String> {
         if num_proteins != 1 {
             return Ok(None);

@@ -4,7 +4,7 @@ use crate::cells::{number, Cell, Label};
 use crate::problem::Problem;
 use crate::progress::Progress;
 use crate::proteins::Decoys;
-use crate::table::Table;
+use crate::results_table::ResultsTable;
 use vayemuku::Psm;
 
 /// The columns that are read.
@@ -35,14 +35,14 @@ const COLUMNS: [&str; 24] = [
     "num_proteins",
 ];
 
-/// The rows of a table, and what each row's protein competes under.
+/// The rows of a table, and the key under which each row's protein competes.
 pub struct Psms<'a> {
     pub rows: Vec<Psm>,
     pub keys: Vec<Option<&'a [u8]>>,
 }
 
 /// Reads all rows.
-pub fn read<'a>(table: &'a Table, decoys: &Decoys, progress: &mut Progress) -> Result<Psms<'a>, Problem> {
+pub fn read<'a>(table: &'a ResultsTable, decoys: &Decoys, progress: &mut Progress) -> Result<Psms<'a>, Problem> {
     let mut places = [0; COLUMNS.len()];
     for (place, name) in places.iter_mut().zip(COLUMNS) {
         *place = table.column(name)?;
@@ -51,7 +51,7 @@ pub fn read<'a>(table: &'a Table, decoys: &Decoys, progress: &mut Progress) -> R
     let mut psms = Psms { rows: Vec::with_capacity(count), keys: Vec::with_capacity(count) };
     let mut cells = Vec::new();
     for row in 1..=count {
-        progress.tell("rows read", row, count);
+        progress.show("rows read", row, count);
         table.cells(row, &mut cells)?;
         let cells = Cells { cells: &cells, places: &places };
         let (psm, key) = cells.psm(decoys).map_err(|why| table.problem(row, why))?;
@@ -61,7 +61,7 @@ pub fn read<'a>(table: &'a Table, decoys: &Decoys, progress: &mut Progress) -> R
     Ok(psms)
 }
 
-/// The cells of one row, and where the columns are that are read.
+/// The cells of one row, and the places of the columns that are read.
 struct Cells<'a, 'b> {
     cells: &'b [&'a [u8]],
     places: &'b [usize; COLUMNS.len()],
@@ -79,7 +79,7 @@ impl<'a> Cells<'a, '_> {
         number(column, self.cell(column))
     }
 
-    /// The row, and what its protein competes under.
+    /// The row, and the key under which its protein competes.
     fn psm(&self, decoys: &Decoys) -> Result<(Psm, Option<&'a [u8]>), String> {
         let Label(label) = self.number("label")?;
         let psm = Psm {
@@ -120,7 +120,7 @@ mod tests {
         // 1 in the first column, 2 in the second, and so on; num_proteins is 1
         let numbers: Vec<String> = (1..COLUMNS.len()).map(|number| number.to_string()).collect();
         let text = format!("{}\n{}\t1\n", COLUMNS.join("\t"), numbers.join("\t"));
-        let table = Table::from_text("x.tsv".to_string(), text.into()).ok().unwrap();
+        let table = ResultsTable::from_text("x.tsv".to_string(), text.into()).ok().unwrap();
         let psms = read(&table, &Decoys::Fasta, &mut Progress::new(false)).ok().unwrap();
         let wanted = Psm {
             rank: 1,

@@ -8,21 +8,22 @@ use crate::problem::{say, Problem};
 use crate::progress::Progress;
 use crate::proteins::Decoys;
 use crate::psms::{self, Psms};
-use crate::table::{place, Table};
+use crate::results_table::{place, ResultsTable};
 use vayemuku::features::FEATURE_NAMES;
 use vayemuku::kernel::Kernel;
-use vayemuku::rescoring::{rescore, Refused, Rescored};
-use vayemuku::{Densities, Line, Psm, Rate, Tolerance};
+use vayemuku::rescoring::{rescore, Rescored};
+use vayemuku::{Densities, Line, Psm, Rate, Refused, Tolerance};
 
-/// Rescores a table and writes the list; Ok tells whether its line is right.
+/// Rescores a table and writes the list; Ok says whether its line is right.
 pub fn run(job: &Rescore) -> Result<bool, Problem> {
-    // an output that cannot be written is told before the work, and a run that is killed at its work leaves no draft
+    // an output that cannot be written is an error before the work; the draft is removed again, so that a run that is
+    // killed during its work leaves none
     drop(Draft::new(&job.output)?);
     let mut progress = Progress::new(job.progress);
-    let table = Table::read(&job.input)?;
+    let table = ResultsTable::read(&job.input)?;
     let psms = psms::read(&table, &job.decoys, &mut progress)?;
     let answer = {
-        let mut densities = Watched { progress: &mut progress };
+        let mut densities = WithProgress { progress: &mut progress };
         rescore(&psms.rows, &psms.keys, job.decoys.names(), job.tolerance, &mut densities)
     };
     let written = write(job, &table, answer.as_ref().ok(), &mut progress);
@@ -34,7 +35,12 @@ pub fn run(job: &Rescore) -> Result<bool, Problem> {
 }
 
 /// Writes the list, whose fresh columns are empty where nothing was rescored.
-fn write(job: &Rescore, table: &Table, rescored: Option<&Rescored>, progress: &mut Progress) -> Result<(), Problem> {
+fn write(
+    job: &Rescore,
+    table: &ResultsTable,
+    rescored: Option<&Rescored>,
+    progress: &mut Progress,
+) -> Result<(), Problem> {
     let mut draft = Draft::new(&job.output)?;
     let list = List { table, rescored, date: &today()?, batch: &job.batch };
     match list.write(draft.file(), progress) {
@@ -44,7 +50,7 @@ fn write(job: &Rescore, table: &Table, rescored: Option<&Rescored>, progress: &m
     }
 }
 
-/// Prints what came out; Ok tells whether the line is right.
+/// Prints the results; Ok says whether the line is right.
 fn report(job: &Rescore, psms: &Psms, rescored: &Rescored) -> Result<bool, Problem> {
     let all = psms.rows.len();
     let decoys = psms.rows.iter().filter(|row| row.label == -1).count();
@@ -63,8 +69,14 @@ fn report(job: &Rescore, psms: &Psms, rescored: &Rescored) -> Result<bool, Probl
     Ok(matches!(rescored.line, Line::Right(_)))
 }
 
-/// That a call refused, which row may be the cause, and where the list is, or why there is none.
-fn refusal(job: &Rescore, table: &Table, psms: &Psms, refused: Refused, written: Result<(), Problem>) -> Problem {
+/// The problem of a refusal: the call, the row that may be the cause, and where the list is, or why there is none.
+fn refusal(
+    job: &Rescore,
+    table: &ResultsTable,
+    psms: &Psms,
+    refused: Refused,
+    written: Result<(), Problem>,
+) -> Problem {
     let mut lines = vec![format!("{}: {refused}", table.name())];
     lines.extend(not_finite(&psms.rows, job.tolerance).map(|why| format!("{}: {why}", table.name())));
     match written {
@@ -76,8 +88,8 @@ fn refusal(job: &Rescore, table: &Table, psms: &Psms, refused: Refused, written:
     }
 }
 
-/// The first row whose mass error or another feature is not finite, as score_psms looks for one after a fit that failed.
-/// The posterior error of the mass error is not looked at: one mass error that is not finite takes it from all rows.
+/// The first row whose mass error or another feature is not finite, as score_psms looks for one after a fit that
+/// failed. The posterior error of the mass error is left out: where one mass error is not finite, no row has it.
 fn not_finite(rows: &[Psm], tolerance: Tolerance) -> Option<String> {
     rows.iter().enumerate().find_map(|(row, psm)| {
         let error = psm.mass_error(tolerance);
@@ -90,18 +102,18 @@ fn not_finite(rows: &[Psm], tolerance: Tolerance) -> Option<String> {
     })
 }
 
-/// Densities by sage's kernel that tell how far they are.
-struct Watched<'a> {
+/// Densities by sage's kernel, with progress.
+struct WithProgress<'a> {
     progress: &'a mut Progress,
 }
 
-impl Densities for Watched<'_> {
-    fn take(&mut self, what: &str, sample: &[f64], width: f64, places: &[f64]) -> Vec<f64> {
+impl Densities for WithProgress<'_> {
+    fn take(&mut self, what: &str, sample: &[f64], width: f64, points: &[f64]) -> Vec<f64> {
         let kernel = Kernel::new(sample, width);
-        let density = |(bin, place): (usize, &f64)| {
-            self.progress.tell(what, bin + 1, places.len());
-            kernel.density(*place)
+        let density = |(bin, point): (usize, &f64)| {
+            self.progress.show(what, bin + 1, points.len());
+            kernel.density(*point)
         };
-        places.iter().enumerate().map(density).collect()
+        points.iter().enumerate().map(density).collect()
     }
 }

@@ -1,0 +1,3 @@
+-- What the loops leave, for the contracts of private functions.
+pub mod Passes
+pub mod Blocks
