@@ -20,11 +20,12 @@ SUM = { rt version && cat crates.txt && find $(patsubst %,crates/%,$(CRATES) vay
 # stops where a command is not on the PATH
 need = @command -v $(1) >/dev/null || { echo "make: $(2) is not on the PATH" >&2; exit 1; }
 
-.PHONY: help test lint lib host run mutants compare record bench prepare layout proved-lib need-rt need-cargo need-python3
+.PHONY: help test lint lib host run mutants compare record bench prepare layout proved-lib
+.PHONY: need-rt need-cargo need-python3
 help: ## this list
 	@grep -E '^[a-z]+:.*## ' $(MAKEFILE_LIST) | sed -E 's/^([a-z]+):.*## /\1\t/' | expand -t 12
 
-test: need-rt need-cargo ## layout and host's tests; then prove every crate from nothing, try every must-fail edit, run every program; ends in 'N passed, 0 failed'
+test: need-rt need-cargo ## the gate: documents, layout, host's tests, then rt ci; ends in 'N passed, 0 failed'
 	docs/check
 	$(MAKE) --no-print-directory layout
 	$(MAKE) --no-print-directory host
@@ -51,7 +52,7 @@ proved-lib:
 	rt staticlib vayemuku
 	@mv $(LIBRARY).proving $(LIBRARY).sum
 
-host: need-cargo lib ## clippy, the tests and the documents of host/; the examples of README.md in C and Rust, and what it shows of make run
+host: need-cargo lib ## clippy, tests and documents of host/, and what README.md shows
 	cd host && $(CLIPPY) -- -D warnings
 	cd host && cargo test --quiet
 	cd host && RUSTDOCFLAGS='-D warnings' cargo doc --quiet --no-deps
@@ -62,10 +63,10 @@ run: need-cargo lib ## two sample batches, made and rescored: one succeeds, and 
 	cd host && cargo build --quiet --release
 	@host/run-sample
 
-mutants: need-python3 ## wrong programs: the edits of crates/*/wrong and one-token edits of the code, which the prover must refuse; an hour or more
+mutants: need-python3 ## wrong programs, which the prover must refuse; an hour or more
 	mutants/run
 
-prepare: need-cargo ## what compare and bench need: Debian's packaged crates, and sage's unchanged files, checked, under target/sage
+prepare: need-cargo ## what compare and bench need: Debian's packaged crates, and sage's files, checked
 	compare/prepare
 
 compare: prepare lib ## the port beside sage's unchanged Rust and Rust's own operators, by bits; fails on one mismatch
@@ -80,7 +81,7 @@ compare: prepare lib ## the port beside sage's unchanged Rust and Rust's own ope
 	host/run-sample >/dev/null
 	$(COMPARE) sample ../target/sample/{good,good.list,refused}.tsv
 
-record: prepare lib ## answers of sage's unchanged Rust that the programs replay_* read, made again: crates/replay_*/data
+record: prepare lib ## the recorded answers of sage's Rust, made again: crates/replay_*/data
 	$(COMPARE) record ../crates
 
 bench: prepare lib ## the port and the Rust timed in one driver, with ratios

@@ -98,9 +98,9 @@ fn features(port: &Port) -> Vec<Feature> {
 /// A table, a batch and its q-values.
 fn competition(function: Function) -> Result<(), String> {
     let mut port = Port::new(&mut Random::new(21));
-    let lowest = f64::from(f32::from_bits(1f32.to_bits() - ROWS as u32));
+    let min_score = f64::from(f32::from_bits(1f32.to_bits() - ROWS as u32));
     let bins = (0..BINS).map(|bin| 1.0 - bin as f64 / (BINS - 1) as f64).collect();
-    let parts = Parts { bins, min_score: lowest, score_step: (1.0 - lowest) / (BINS - 1) as f64 };
+    let parts = Parts { bins, min_score, score_step: (1.0 - min_score) / (BINS - 1) as f64 };
     let mut sage = Sage::with(database(SLOTS, true, "rev_"), features(&port));
     let (mut answer, mut sage_count, mut times) = ((0, 0), 0, Vec::new());
     let both = || {

@@ -155,13 +155,13 @@ fn any_score(random: &mut Random) -> f32 {
 
 /// Scores of which many are equal, with zeros, infinities and NaNs among them, or whole halves.
 fn tied(random: &mut Random, length: usize) -> Vec<f32> {
-    let (halves, lowest) = (random.below(4) == 0, random.below(2) == 0);
+    let (halves, with_min) = (random.below(4) == 0, random.below(2) == 0);
     let mut scores: Vec<f32> = tied_scores(random, length).into_iter().map(|score| score as f32).collect();
     for score in &mut scores {
         if halves {
             *score = random.below(300) as f32 / 2.0 - 20.0;
         }
-        if lowest && random.below(8) == 0 {
+        if with_min && random.below(8) == 0 {
             *score = f32::MIN;
         }
     }

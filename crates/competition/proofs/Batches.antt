@@ -21,7 +21,7 @@ use Rattle.columns.specs.Refusals.{longest}
 use Rattle.columns.specs.declared.Outcome.the-variants.{Accepted}
 use Rattle.counting.specs.Labels.{isDecoy}
 use Rattle.competition.specs.Tables.{Table, tableOf, tableRun, freshAsked, freshTable}
-use Rattle.competition.specs.Batches.{Batch, joined, noPart, allAllowed, withRow, added, batchAsked, addRows}
+use Rattle.competition.specs.Batches.{Batch, appended, noPart, allAllowed, withRow, added, batchAsked, addRows}
 use Rattle.competition.specs.Winners.{slotSeen, decoyFlag, winnersRun, winnersAsked, winners}
 use Rattle.competition.specs.Inner.Ready.{BatchReady}
 use Rattle.competition.proofs.Questions.{batch-ready, batch-accepted}
@@ -30,7 +30,7 @@ use Rattle.competition.proofs.Calls.{run-of-accepted, all-allowed-joine
 
 -- ---- batch after batch
 
--- rows added one batch after the other are the joined batches' rows
+-- rows added one batch after the other are the rows of both batches
 pub joined-rows : (a c : List ℕ) (b d : List ℤ) (x y : List Float) → length b ≡ length a → length x ≡ length a → (t : Table)
     → added (a ++ c) (b ++ d) (x ++ y) t ≡ added c d y (added a b x t)
 unfolding added
@@ -61,20 +61,20 @@ another a b t w h l s k = batch-accepted b t (record {
   slots-allowed = k;
 })
 
--- two accepted calls are one, if the joined columns are not too long
+-- two accepted calls are one, if the appended columns are not too long
 pub joined-calls : (a b : Batch) (t : Table) → batchAsked a t ≡ Accepted → batchAsked b (addRows a t .table) ≡ Accepted
-    → length (joined a b .slots) ≤ longest
-    → (batchAsked (joined a b) t ≡ Accepted) × (addRows (joined a b) t ≡ addRows b (addRows a t .table))
+    → length (appended a b .slots) ≤ longest
+    → (batchAsked (appended a b) t ≡ Accepted) × (addRows (appended a b) t ≡ addRows b (addRows a t .table))
 joined-calls a b t p q h =
     let f = batch-ready a t p in
     let g = batch-ready b t (sym (later-answer a b t) ∙ q) in
-    let e : batchAsked (joined a b) t ≡ Accepted =
-    another a (joined a b) t f h
+    let e : batchAsked (appended a b) t ≡ Accepted =
+    another a (appended a b) t f h
     (omega (arith, length-append (a .labels) (b .labels), length-append (a .slots) (b .slots), f .labels-length, g .labels-length))
     (omega (arith, length-append (a .scores) (b .scores), length-append (a .slots) (b .slots), f .scores-length, g .scores-length))
     (rw (all-allowed-joined (length (t .forward)) (a .slots) (b .slots), f .slots-allowed, g .slots-allowed)) in (
       e,
-      run-of-accepted (joined a b) t e
+      run-of-accepted (appended a b) t e
           ∙ ap (tableRun Accepted)
           (joined-rows (a .slots) (b .slots) (a .labels) (b .labels) (a .scores) (b .scores) (f .labels-length) (f .scores-length) t
           ∙ ap (added (b .slots) (b .labels) (b .scores)) (sym (ap (λ r. r .table) (run-of-accepted a t p))))
@@ -83,16 +83,16 @@ joined-calls a b t p q h =
 
 -- and an accepted call is two
 pub split-call : (a b : Batch) (t : Table) → length (a .labels) ≡ length (a .slots) → length (a .scores) ≡ length (a .slots)
-    → batchAsked (joined a b) t ≡ Accepted → (batchAsked a t ≡ Accepted) × (batchAsked b (addRows a t .table) ≡ Accepted)
+    → batchAsked (appended a b) t ≡ Accepted → (batchAsked a t ≡ Accepted) × (batchAsked b (addRows a t .table) ≡ Accepted)
 split-call a b t p q e =
-    let w = batch-ready (joined a b) t e in
+    let w = batch-ready (appended a b) t e in
     let h = w .short in
     let n = length (t .forward) in
     let s = both (allAllowed n (a .slots)) (allAllowed n (b .slots)) (sym (all-allowed-joined n (a .slots) (b .slots)) ∙ w .slots-allowed) in
     let slots = length-append (a .slots) (b .slots) in (
-      another (joined a b) a t w (omega (arith, slots)) p q (s .0),
+      another (appended a b) a t w (omega (arith, slots)) p q (s .0),
       later-answer a b t
-          ∙ another (joined a b) b t w (omega (arith, slots)) (omega (arith, slots, length-append (a .labels) (b .labels), w .labels-length))
+          ∙ another (appended a b) b t w (omega (arith, slots)) (omega (arith, slots, length-append (a .labels) (b .labels), w .labels-length))
           (omega (arith, slots, length-append (a .scores) (b .scores), w .scores-length))
           (s .1),
     )

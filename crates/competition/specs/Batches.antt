@@ -25,8 +25,8 @@ abbrev pub batchOf : List ℕ → List ℤ → List Float → Batch
 batchOf slots labels scores = record { slots = slots; labels = labels; scores = scores }
 
 -- one batch behind another
-abbrev pub joined : Batch → Batch → Batch
-joined a b = batchOf (a .slots ++ b .slots) (a .labels ++ b .labels) (a .scores ++ b .scores)
+abbrev pub appended : Batch → Batch → Batch
+appended a b = batchOf (a .slots ++ b .slots) (a .labels ++ b .labels) (a .scores ++ b .scores)
 
 -- "Slot 4,294,967,295 marks a row that takes no part (shared peptide)."
 abbrev pub noPart : ℕ

@@ -11,7 +11,8 @@ use lib.IntN.{ℤ, pos, negsuc}
 use lib.ListN.{length, getD, take, drop, length-map, length-replicate, getD-replicate}
 use lib.Seq.{take-at, length-take-le, length-front}
 use lib.Ieee.{Float, nan, binary32, fits, ofBits}
-use Rattle.folds.specs.Lists.{filled, tabulated, All}
+use Rattle.folds.specs.Lists.{filled, tabulated}
+use Rattle.folds.specs.Inner.All.{All}
 use Rattle.folds.proofs.Writing.{tabulated-same, same-blank, all-map, all-at}
 use Rattle.floats.specs.Constants.{f32One}
 use Rattle.floats.specs.Ratio.{oneIn}
@@ -100,7 +101,8 @@ labels-same t [] = refl
 labels-same t (k ∷ ks) = ap (λ (l : List ℤ). labelOf k ∷ l) (labels-same t ks)
 
 -- what `assigned` knows after its call of `pack`, and after that of `rank`
-pub record Packs (bins : List Float) (t : Table) (slots : List ℕ) (labels : List ℤ) (keys₀ spare₀ : List ℕ) (q₀ : List Float) (rows : ℕ) (keys₁ : List ℕ) : Type 0 where
+pub record Packs (bins : List Float) (t : Table) (slots : List ℕ) (labels : List ℤ) (keys₀ spare₀ : List ℕ)
+    (q₀ : List Float) (rows : ℕ) (keys₁ : List ℕ) : Type 0 where
   pub ready : AssignReady t (length bins) slots (length labels) (length keys₀) (length spare₀) (length q₀)
   pub forward-fit : (i : ℕ) → T (fits binary32 (getD (t .forward) i nan))
   pub reverse-fit : (i : ℕ) → T (fits binary32 (getD (t .reverse) i nan))
@@ -108,7 +110,8 @@ pub record Packs (bins : List Float) (t : Table) (slots : List ℕ) (labels : Li
   pub same : length keys₁ ≡ length keys₀
   pub front : take rows keys₁ ≡ map sideKey (seenSides t)
 
-pub record Ranks (settings : Settings) (bins : List Float) (t : Table) (keys spare : List ℕ) (count : ℕ) (keys₁ spare₁ : List ℕ) : Type 0 where
+pub record Ranks (settings : Settings) (bins : List Float) (t : Table) (keys spare : List ℕ) (count : ℕ)
+    (keys₁ spare₁ : List ℕ) : Type 0 where
   pub count-is : count ≡ targetsAtMost (oneIn 100) (map labelOf (sorted keys)) (sideQ settings bins (map (keySide t) (sorted keys)))
   pub keys-are : keys₁ ≡ withNumbers (sideQ settings bins (map (keySide t) (sorted keys))) (sorted keys)
   pub same-keys : length keys₁ ≡ length keys

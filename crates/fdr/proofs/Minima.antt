@@ -12,7 +12,7 @@ use lib.ListN.{length, getD, take, drop, set, length-set}
 use lib.Seq.{drop-cons, drop-length, set-split, take-set-le, take-take, getD-take, drop-at, length-take-le}
 use lib.Ieee.{Float, binary32, isNan, le, ofBits}
 use mir.Val.{boolByte}
-use Rattle.folds.specs.Lists.{All}
+use Rattle.folds.specs.Inner.All.{All}
 use Rattle.folds.proofs.Writing.{all-at}
 use Rattle.folds.proofs.Tests.{byte-most}
 use Rattle.floats.specs.MinMax.{minNumber}

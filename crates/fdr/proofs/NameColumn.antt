@@ -10,7 +10,7 @@ use borrow.Author.Tests.{eqb-true, eqb-false}
 use lib.ListN.{length, getD, drop, set, replicate, length-set, drop-of-length-le}
 use lib.Seq.{drop-cons, getD-set-same, getD-set-other}
 use lib.Ieee.{binary32, isNan, ofBits}
-use Rattle.folds.specs.Lists.{All}
+use Rattle.folds.specs.Inner.All.{All}
 use Rattle.folds.proofs.Writing.{all-at}
 use Rattle.folds.proofs.Tests.{both}
 use Rattle.ranking.specs.Inner.Layout.{placeOf, decoyBit, upperOf}

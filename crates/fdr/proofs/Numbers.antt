@@ -10,7 +10,7 @@ use lib.ListN.{length}
 use lib.Ieee.{Float, binary32, fits, isNan, lt, le, ofBits, toBits}
 use lib.Ieee.Fits.{div-fits}
 use lib.Ieee.Bits.{cond-no, ofBits-toBits, toBits-lt, ofBits-fits}
-use Rattle.folds.specs.Lists.{All}
+use Rattle.folds.specs.Inner.All.{All}
 use Rattle.folds.proofs.Writing.{all-mapped}
 use Rattle.floats.specs.Constants.{f32One}
 use Rattle.floats.specs.MinMax.{minNumber}

@@ -11,7 +11,7 @@ use lib.Dec.{T, eqb}
 use lib.IntN.{pos, negsuc}
 use lib.ListN.{length, getD, length-map}
 use lib.Ieee.{Float, nan, binary32, fits}
-use Rattle.folds.specs.Lists.{All}
+use Rattle.folds.specs.Inner.All.{All}
 use Rattle.folds.proofs.Tests.{lt-or-ge}
 use Rattle.floats.specs.TotalOrder.{orderKey}
 use Rattle.columns.specs.Refusals.{longest}

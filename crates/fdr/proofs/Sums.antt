@@ -11,7 +11,7 @@ use borrow.Author.Tests.{eqb-true, eqb-false}
 use lib.ListN.{length, getD, take, drop, set, length-set, drop-of-length-le}
 use lib.Seq.{drop-cons, drop-set-lt, drop-drop, getD-drop, take-all}
 use lib.Ieee.{Float, binary32, add, div, ofBits}
-use Rattle.folds.specs.Lists.{All}
+use Rattle.folds.specs.Inner.All.{All}
 use Rattle.folds.proofs.Writing.{front-write, all-at}
 use Rattle.floats.specs.Constants.{f32One}
 use Rattle.floats.specs.MinMax.{minNumber}

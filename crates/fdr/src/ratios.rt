@@ -6,7 +6,7 @@ ghost use Prim.Native.Nat.{_≤_, _<_};
 ghost use lib.Dec.{T};
 ghost use lib.ListN.{length};
 ghost use lib.Ieee.{isNan};
-ghost use Rattle.folds.specs.Lists.{All};
+ghost use Rattle.folds.specs.Inner.All.{All};
 ghost use Rattle.floats.specs.Constants.{f32One};
 ghost use Rattle.floats.specs.Ratio.{oneIn};
 ghost use Rattle.counting.specs.QValues.{runningMinimum, targetsAtMost};

@@ -13,7 +13,8 @@ use lib.Seq.{take-suc-set, getD-set-same, getD-set-other, ext-getD}
 use borrow.Author.Count.{below-more}
 use borrow.Author.Tests.{lt-ltb, le-ltb}
 use Rattle.folds.proofs.Tests.{lt-or-ge}
-use Rattle.folds.specs.Lists.{filled, tabulated, All}
+use Rattle.folds.specs.Lists.{filled, tabulated}
+use Rattle.folds.specs.Inner.All.{All}
 
 -- columns of one length have one blank
 pub same-blank : {A : Type 0} (v : A) (c d : List A) → length c ≡ length d → filled v c ≡ filled v d

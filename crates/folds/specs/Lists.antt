@@ -14,11 +14,6 @@ unfoldable pub tabulated : {A : Type 0} → (ℕ → A) → ℕ → ℕ → List
 tabulated f a zero = []
 tabulated f a (suc k) = f a ∷ tabulated f (suc a) k
 
--- each element has P
-abbrev pub All : {A : Type 0} → (A → Type 0) → List A → Type 0
-All P [] = Unit {0}
-All P (x ∷ xs) = P x × All P xs
-
 -- f over a list in its order, from the value b on
 unfoldable pub folded : {A B : Type 0} → (B → A → B) → B → List A → B
 folded f b [] = b

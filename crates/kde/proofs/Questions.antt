@@ -17,7 +17,7 @@ use Rattle.kde.specs.declared.Builder.{Builder}
 use Rattle.kde.specs.Bins.{inRange, binScoresAsked, binsAsked}
 use Rattle.kde.specs.Estimate.{errorsAsked}
 use Rattle.kde.specs.LogErrors.{logErrorsAsked}
-use Rattle.kde.specs.Inner.InBounds.{InBounds}
+use Rattle.kde.specs.Inner.BinsReady.{BinsReady}
 
 pub in-range : (bins : ℕ) → inRange bins ≡ true → (1 ≤ bins) × (bins ≤ 65536)
 in-range bins e =
@@ -56,7 +56,7 @@ log-errors-passed logs errors e =
 -- of a builder and three columns, with counts of the list
 module _ (builder : Builder) (listed decoys total : ℕ) (decoyDensity targetDensity bins : List Float) where
   pub bins-passed : binsAsked (builder .bins) listed (length decoyDensity) (length targetDensity) (length bins) ≡ Accepted → decoys ≤ total → total ≤ listed
-      → InBounds builder decoys total decoyDensity targetDensity bins
+      → BinsReady builder decoys total decoyDensity targetDensity bins
   bins-passed e h k =
       let n = builder .bins in
       let p = passed listed (eqb (length decoyDensity) n && eqb (length targetDensity) n && eqb (length bins) n) n e in

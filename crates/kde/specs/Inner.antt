@@ -1,1 +1,1 @@
-pub mod InBounds
+pub mod BinsReady

@@ -6,7 +6,7 @@ ghost use lib.ListN.{length};
 ghost use Rattle.folds.specs.Lists.{tabulated, howMany};
 ghost use Rattle.kde.specs.Bins.{leastScore, greatestScore, binScore, binScoresAsked, binScoresRun, binScoresOf};
 ghost use Rattle.kde.specs.Bins.{posteriorBin, raised, binsOf, binsAsked, binsRun, labelBins, slotBins};
-ghost use Rattle.kde.specs.Inner.InBounds.{InBounds};
+ghost use Rattle.kde.specs.Inner.BinsReady.{BinsReady};
 use crate::Builder;
 use crate::Built;
 use crate::Estimator;
@@ -145,7 +145,7 @@ fn build_bins(
     target_density: &[f64],
     bins: &mut [f64],
 )
-    requires { ⌜ InBounds builder decoys total (now «decoy_density») (now «target_density») (now bins) ⌝ }
+    requires { ⌜ BinsReady builder decoys total (now «decoy_density») (now «target_density») (now bins) ⌝ }
     ensures { λ _.
         let decoy = now («decoy_density» .entry) in
         let target = now («target_density» .entry) in

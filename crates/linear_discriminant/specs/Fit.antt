@@ -108,9 +108,9 @@ trainedNumber (Refused refusal) = numberOf refusal
 
 -- ---- train
 
--- Question 1, "Is every list at most 16,777,215 long? … a feature column is too long above 335,544,300 numbers";
--- question 2, "features twenty per label"; and question 6, "is there a decoy and a target?"; of how many there are of
--- each
+-- Questions 1, 2 and 6, of how many features, labels, decoys and targets there are: "Is every list at most 16,777,215
+-- long? … a feature column is too long above 335,544,300 numbers", "features twenty per label", and "is there a decoy
+-- and a target?"
 abbrev pub trainAsked : ℕ → ℕ → ℕ → ℕ → Outcome
 trainAsked features labels decoys targets =
     ifNot (leb labels longest && leb features (20 * longest)) TooLong

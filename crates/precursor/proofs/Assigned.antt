@@ -68,7 +68,8 @@ counting-done keys {i} w h = w .is ∙ ap decoys (take-all i (labels keys) (omeg
 
 -- ---- the q-values, from the last row up
 
-pub record Assigned (keys : List ℕ) (q₀ : List Float) (i decoy target : ℕ) (least : Float) (passing : ℕ) (q : List Float) : Type 0 where
+pub record Assigned (keys : List ℕ) (q₀ : List Float) (i decoy target : ℕ) (least : Float) (passing : ℕ)
+    (q : List Float) : Type 0 where
   pub high : i ≤ length keys
   pub same : length q ≡ length q₀
   pub few : passing + i ≤ length keys

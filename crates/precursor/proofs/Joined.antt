@@ -6,7 +6,8 @@ use native.Mathlib.Omega.{arith}
 use lib.IntN.{ℤ}
 use lib.ListN.{length}
 use lib.Ieee.{Float, nan}
-use Rattle.folds.specs.Lists.{filled, All}
+use Rattle.folds.specs.Lists.{filled}
+use Rattle.folds.specs.Inner.All.{All}
 use Rattle.folds.proofs.Writing.{same-blank}
 use Rattle.columns.specs.Refusals.{longest}
 use Rattle.columns.specs.declared.Counted.the-variants.{Passing}

@@ -3,7 +3,7 @@ ghost use mathlib.Core.Path.{_≡_};
 ghost use mathlib.Core.List.{map};
 ghost use Prim.Native.Nat.{_≤_, _<_};
 ghost use lib.ListN.{length};
-ghost use Rattle.folds.specs.Lists.{All};
+ghost use Rattle.folds.specs.Inner.All.{All};
 ghost use Rattle.columns.specs.Refusals.{longest};
 ghost use Rattle.floats.specs.Ratio.{oneIn};
 ghost use Rattle.counting.specs.Labels.{decoys};

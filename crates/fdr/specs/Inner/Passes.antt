@@ -8,7 +8,7 @@ use lib.Dec.{T, eqb}
 use lib.IntN.{ℤ}
 use lib.ListN.{length, getD, set}
 use lib.Ieee.{Float, binary32, isNan, ofBits, toBits}
-use Rattle.folds.specs.Lists.{All}
+use Rattle.folds.specs.Inner.All.{All}
 use Rattle.floats.specs.Constants.{f32One}
 use Rattle.floats.specs.MinMax.{minNumber}
 use Rattle.columns.specs.Refusals.{longest}

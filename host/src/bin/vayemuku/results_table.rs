@@ -49,7 +49,7 @@ impl ResultsTable {
 
     /// Err for a header that follows a byte order mark, or that names a column twice.
     fn check_header(&self) -> Result<(), Problem> {
-        self.check_line(0)?;
+        self.check_text(0)?;
         if self.text.starts_with("\u{feff}".as_bytes()) {
             return Err(self.problem(0, "the file begins with a byte order mark: take it out, as by tail -c +4"));
         }
@@ -61,7 +61,7 @@ impl ResultsTable {
     }
 
     /// Err for a line that is empty or has a carriage return.
-    fn check_line(&self, row: usize) -> Result<(), Problem> {
+    fn check_text(&self, row: usize) -> Result<(), Problem> {
         let line = self.line(row);
         if line.contains(&b'\r') {
             let why = "the line has a carriage return: take Windows line ends out, as by tr -d '\\r'";
@@ -105,7 +105,7 @@ impl ResultsTable {
 
     /// Puts the cells of a row, from 1, into `cells`, which then has as many as the header.
     pub fn cells<'a>(&'a self, row: usize, cells: &mut Vec<&'a [u8]>) -> Result<(), Problem> {
-        self.check_line(row)?;
+        self.check_text(row)?;
         cells.clear();
         cells.extend(self.line(row).split(|byte| *byte == b'\t'));
         match cells.len() == self.width {

@@ -8,10 +8,10 @@ use lib.Ieee.{Float}
 use Rattle.columns.specs.Refusals.{longest}
 use Rattle.kde.specs.declared.Builder.{Builder}
 
-pub record InBounds (builder : Builder) (decoys total : ℕ) (decoyDensity targetDensity bins : List Float) : Type 0 where
+pub record BinsReady (builder : Builder) (decoys total : ℕ) (decoys-at targets-at bins : List Float) : Type 0 where
   pub some : 1 ≤ builder .bins
-  pub decoy-length : length decoyDensity ≡ builder .bins
-  pub target-length : length targetDensity ≡ builder .bins
+  pub decoy-length : length decoys-at ≡ builder .bins
+  pub target-length : length targets-at ≡ builder .bins
   pub bins-length : length bins ≡ builder .bins
   pub decoys-few : decoys ≤ total
   pub total-few : total ≤ longest
