@@ -6,12 +6,11 @@ use mathlib.Core.Bool.{Bool, true, false, cond}
 use Prim.Native.Nat.{ℕ, suc, _+_, _-_, _^_, _≤_, _<_, zero-le}
 use native.Mathlib.Omega.{arith}
 use borrow.Author.Tests.{ne-eqb}
-use lib.Dec.{T, eqb, eqb→eq, le→leb}
+use lib.Dec.{T, eqb, eqb→eq}
 use lib.IntN.{ℤ, pos, negsuc}
 use lib.Signed.{mag}
 use lib.ListN.{length, take, getD}
 use lib.Seq.{take-all}
-use lib.Ieee.{binary32, inFloat}
 use lib.Ieee.Fits.{eq→eqb}
 use mir.Syntax.{w32}
 use mir.Val.{ofZ, boolByte}
@@ -97,8 +96,3 @@ module _ {labels : List ℤ} {i decoy target : ℕ} (t : Tally labels i decoy ta
 
   pub next-target : target + (1 - mark labels i) ≤ length labels
   next-target = omega (arith, tally-both t, t .decoy-is)
-
--- a count up to 2^24 is an f32
-pub count-is-float : (n : ℕ) → n ≤ 2 ^ 24 → T (inFloat binary32 (pos n))
-unfolding inFloat
-count-is-float n h = le→leb n (2 ^ 24) h

@@ -1,48 +1,33 @@
 -- Rust's `as` to an unsigned integer: 0 for what is not above −1, a NaN included, and the greatest number for what is
 -- not below 2^w. Between the two it only cuts the fraction off, so it keeps the order of floats.
-use mathlib.Core.Path.{_≡_, refl, sym, ap₂, _∙_}
+use mathlib.Core.Path.{_≡_, refl, sym, ap, ap₂, _∙_}
 use mathlib.Core.Logic.{inl, inr}
 use mathlib.Core.Bool.{Bool, true, false, not, _&&_, cond, true≢false, false≢true}
-use Prim.Native.Nat.{ℕ, suc, _+_, _-_, _*_, _/_, _^_, _≤_, min, zero-le}
-use native.Mathlib.Nat.{le-refl, mul-one, one-mul, zero-mul, zero-div, mul-pos, le-div-iff-mul-le, eq-of-mul-eq-mul-right}
+use Prim.Native.Nat.{ℕ, suc, _-_, _*_, _/_, _^_, _≤_, _<_, min, max, zero-le}
+use native.Mathlib.Nat.{le-refl, mul-one, one-mul, zero-mul, zero-div, div-one, div-eq-of-lt, eq-of-mul-eq-mul-right}
 use native.Mathlib.Omega.{arith}
 use borrow.Author.Tests.{ltb-false}
 use lib.Dec.{lit≤, T, ltb, eqb, ltb→lt, eqb→eq, le→leb, lt→ltb}
 use lib.IntN.{pos}
+use mir.Val.{boolByte}
+use denote.Floats.{passes}
 use lib.Pow.{pow-pos}
-use lib.Ieee.{Float, nan, inf, fin, Format, binary64, up, down, isNan, inFloat, ofInt, lt, le, div, round, toUnsigned}
+use lib.Ieee.{Float, nan, inf, fin, Format, binary64, up, down, isNan, inFloat, ofInt, ofBits, lt, le, div, round, toUnsigned}
 use lib.Ieee.Fits.{and-l, and-r, down-pos}
 use lib.Ieee.Nearest.{div-mono}
+use lib.Ieee.Bits.{is-true}
 use lib.Ieee.Exact.{HasValue}
 use lib.Ieee.Back.{round-whole, unsigned-back}
 use lib.Ieee.Order.{le-of-values}
-use Rattle.folds.proofs.Tests.{or-split}
+use Rattle.folds.proofs.Tests.{or-split, byte-most}
 use Rattle.floats.specs.Signs.{negative}
+use Rattle.floats.specs.Constants.{f64One}
 use Rattle.floats.specs.MinMax.{minNumber, maxNumber}
 use Rattle.floats.proofs.Signs.{round-sign}
 use Rattle.floats.proofs.Fractions.{lt-at}
-use Rattle.floats.proofs.Order.{le-right, lt-of-le-of-lt, lt-of-lt-of-le, min-either, min-le-left, min-le-right, max-ge-left}
+use Rattle.floats.proofs.Order.{le-right, not-lt→le, not-le→lt, lt-of-le-of-lt, lt-of-lt-of-le, min-either, min-le-left, min-le-right, max-either, max-ge-left, max-ge-right}
 use Rattle.floats.proofs.Zeros.{plusZero}
 use Rattle.floats.proofs.Infinities.{Off, infinite, some}
-
-pub at-or-below : (w : ℕ) (x : Float) → lt (fin true 1 (pos 0)) x ≡ false → toUnsigned w x ≡ 0
-unfolding lt toUnsigned
-at-or-below w nan h = refl
-at-or-below w (inf true) h = refl
-at-or-below w (inf false) h = absurd (true≢false h)
-at-or-below w (fin true m e) h = refl
-at-or-below w (fin false m e) h = omega (arith, ltb-false 0 (1 * 1 * down e + m * up e * 1) h, down-pos e)
-
-pub at-or-above : (w : ℕ) (x : Float) → lt (fin true 1 (pos 0)) x ≡ true → lt x (fin false 1 (pos w)) ≡ false → toUnsigned w x ≡ 2 ^ w - 1
-unfolding lt toUnsigned
-at-or-above w nan h k = absurd (false≢true h)
-at-or-above w (inf true) h k = absurd (false≢true h)
-at-or-above w (inf false) h k = refl
-at-or-above w (fin true m e) h k = omega (arith, ltb-false 0 (m * up e * 1 + 1 * 2 ^ w * down e) k, mul-pos (pow-pos w) (down-pos e), one-mul (2 ^ w))
-at-or-above w (fin false m e) h k =
-    let c : 2 ^ w * down e ≤ m * up e = rw (one-mul, mul-one) at (ltb-false (m * up e * 1) (1 * 2 ^ w * down e) k) in
-    let l : 2 ^ w ≤ m * up e / down e = le-div-iff-mul-le (down-pos e) .1 c in
-    omega arith
 
 -- ---- the order
 
@@ -73,11 +58,44 @@ module _ (w : ℕ) where
       let h = div-mono (m * up e) (down e) (n * up d) (down d) (down-pos e) (down-pos d) cross in
       omega arith
 
+  convert-most : (x : Float) → toUnsigned w x ≤ 2 ^ w - 1
+  unfolding toUnsigned
+  convert-most nan = zero-le
+  convert-most (inf true) = zero-le
+  convert-most (inf false) = le-refl (2 ^ w - 1)
+  convert-most (fin true m e) = zero-le
+  convert-most (fin false m e) = omega arith
+
+  -- what is not below 2^w converts to the greatest number
+  pub convert-above : (x : Float) → T (le (fin false 1 (pos w)) x) → toUnsigned w x ≡ 2 ^ w - 1
+  unfolding toUnsigned
+  convert-above x p =
+      let h : min (1 * 2 ^ w / 1) (2 ^ w - 1) ≤ toUnsigned w x = convert-mono (fin false 1 (pos w)) x p in
+      let k = convert-most x in
+      omega (arith, one-mul (2 ^ w), div-one (1 * 2 ^ w))
+
   pub convert-min : (a b : Float) → T (not (isNan a)) → T (not (isNan b)) → toUnsigned w (minNumber a b) ≡ min (toUnsigned w a) (toUnsigned w b)
   convert-min a b p q = elim (min-either a b) [
     | inl e ↦ rw e (let h : toUnsigned w a ≤ toUnsigned w b = convert-mono a b (rw e at (min-le-right a b q)) in omega arith)
     | inr e ↦ rw e (let h : toUnsigned w b ≤ toUnsigned w a = convert-mono b a (rw e at (min-le-left a b p)) in omega arith)
   ]
+
+  pub convert-max : (a b : Float) → T (not (isNan a)) → T (not (isNan b)) → toUnsigned w (maxNumber a b) ≡ max (toUnsigned w a) (toUnsigned w b)
+  convert-max a b p q = elim (max-either a b) [
+    | inl e ↦ rw e (let h : toUnsigned w b ≤ toUnsigned w a = convert-mono b a (rw e at (max-ge-right a b q)) in omega arith)
+    | inr e ↦ rw e (let h : toUnsigned w a ≤ toUnsigned w b = convert-mono a b (rw e at (max-ge-left a b p)) in omega arith)
+  ]
+
+  -- what is below 1 converts to 0
+  pub convert-below-one : (x : Float) → T (lt x f64One) → toUnsigned w x ≡ 0
+  unfolding lt toUnsigned ofBits
+  convert-below-one nan p = refl
+  convert-below-one (inf true) p = refl
+  convert-below-one (inf false) p = absurd p
+  convert-below-one (fin true m e) p = refl
+  convert-below-one (fin false m e) p =
+      let c : m * up e < down e = rw (mul-one, one-mul) at (ltb→lt (m * up e * 1) (1 * down e) p) in
+      rw (div-eq-of-lt c) (omega arith)
 
   -- what is below 0 converts to 0, and so does a NaN
   pub convert-max-zero : (q : Float) → toUnsigned w (maxNumber plusZero q) ≡ toUnsigned w q
@@ -93,6 +111,21 @@ module _ (w : ℕ) where
       go false h =
           let none : n * up d ≡ 0 = omega (arith, ltb-false (0 * down d) (n * up d * 1) h, zero-mul (down d), mul-one (n * up d)) in
           rw (none, zero-div (down d))
+
+  -- what is held to 0 from below, where it is not 2^w or more
+  pub from-zero-range : (q : Float) → le (fin false 1 (pos w)) q ≡ false
+      → T (le plusZero (maxNumber plusZero q)) × T (lt (maxNumber plusZero q) (fin false 1 (pos w)))
+  unfolding isNan lt
+  from-zero-range q below = (
+    from,
+    elim (max-either plusZero q) [
+      | inl e ↦ rw e (lt→ltb 0 (1 * 2 ^ w * 1) (omega (arith, pow-pos w)))
+      | inr e ↦ rw e (not-le→lt q (fin false 1 (pos w)) (le-right plusZero q (rw e at from)) tt (λ t. true≢false (sym (is-true _ t) ∙ below)))
+    ],
+  )
+    where
+      from : T (le plusZero (maxNumber plusZero q))
+      from = max-ge-left plusZero q tt
 
   negative-none : (x : Float) → negative x ≡ true → toUnsigned w x ≡ 0
   unfolding toUnsigned
@@ -118,6 +151,47 @@ module _ (w : ℕ) where
           negative-none (round f true (suc m * up e * down d) (n * up d * down e))
           (round-sign f true (suc m * up e * down d) (n * up d * down e))
 
+-- ---- a number from 0 on, cut as at least 1, less 1 where it is below 1
+
+module _ (x : Float) (from : T (le plusZero x)) where
+  from-one : T (le f64One (maxNumber f64One x))
+  unfolding isNan ofBits
+  from-one = max-ge-left f64One x tt
+
+  -- what the cut asks
+  pub cut-range : T (lt x (fin false 1 (pos 64)))
+      → T (lt (fin true 1 (pos 0)) (maxNumber f64One x)) × T (lt (maxNumber f64One x) (fin false 1 (pos 64)))
+  unfolding lt ofBits
+  cut-range below = (
+    lt-of-lt-of-le (fin true 1 (pos 0)) f64One (maxNumber f64One x) tt from-one,
+    elim (max-either f64One x) [
+      | inl e ↦ rw e tt
+      | inr e ↦ rw e below
+    ],
+  )
+
+  cut-one : toUnsigned 64 f64One ≡ 1
+  unfolding toUnsigned ofBits
+  cut-one = refl
+
+  cut-max : toUnsigned 64 (maxNumber f64One x) ≡ max 1 (toUnsigned 64 x)
+  unfolding isNan ofBits
+  cut-max = convert-max 64 f64One x tt (le-right plusZero x from) ∙ ap (λ n. max n (toUnsigned 64 x)) cut-one
+
+  pub cut-at-least : (b : Bool) → boolByte b ≤ toUnsigned 64 (maxNumber f64One x)
+  cut-at-least b = rw cut-max (let h = byte-most b in omega arith)
+
+  pub cut-is : toUnsigned 64 (maxNumber f64One x) - boolByte (lt x f64One) ≡ toUnsigned 64 x
+  unfolding isNan ofBits
+  cut-is = rw cut-max (go (lt x f64One) refl)
+    where
+      go : (b : Bool) → lt x f64One ≡ b → max 1 (toUnsigned 64 x) - boolByte b ≡ toUnsigned 64 x
+      go true e = let h = convert-below-one 64 x (passes _ e) in omega arith
+      go false e =
+          let h : toUnsigned 64 f64One ≤ toUnsigned 64 x = convert-mono 64 f64One x (not-lt→le x f64One (le-right plusZero x from) tt e) in
+          let k = cut-one in
+          omega arith
+
 -- ---- a float held between 0 and a whole number
 
 abbrev pub held : ℕ → Float → Float
@@ -136,11 +210,11 @@ module _ (last : ℕ) (few : last ≤ 2 ^ 53) (q : Float) where
   q-from = max-ge-left plusZero q tt
 
   -- what the conversion asks
-  pub held-range : T (lt (fin true 1 (pos 0)) (held last q)) × T (lt (held last q) (fin false 1 (pos 64)))
+  pub held-range : T (le plusZero (held last q)) × T (lt (held last q) (fin false 1 (pos 64)))
   held-range = (
     elim (min-either (ofInt binary64 (pos last)) (maxNumber plusZero q)) [
-      | inl e ↦ rw e (lt-of-lt-of-le (fin true 1 (pos 0)) plusZero (ofInt binary64 (pos last)) (unfold lt in tt) last-from)
-      | inr e ↦ rw e (lt-of-lt-of-le (fin true 1 (pos 0)) plusZero (maxNumber plusZero q) (unfold lt in tt) q-from)
+      | inl e ↦ rw e last-from
+      | inr e ↦ rw e q-from
     ],
     lt-of-le-of-lt (held last q) (ofInt binary64 (pos last)) (fin false 1 (pos 64))
         (min-le-left (ofInt binary64 (pos last)) (maxNumber plusZero q) (le-right plusZero (ofInt binary64 (pos last)) last-from))

@@ -5,7 +5,9 @@ ghost use mathlib.Core.Path.{_≡_};
 ghost use mathlib.Core.Bool.{false, not};
 ghost use Prim.Native.Nat.{_≤_};
 ghost use lib.Dec.{T};
-ghost use lib.Ieee.{binary32, binary64, toUnsigned, isNan};
+ghost use lib.IntN.{pos};
+ghost use lib.Ieee.{binary32, binary64, fin, toUnsigned, isNan, lt, le};
+ghost use Rattle.floats.specs.Constants.{f64Zero};
 ghost use Rattle.floats.specs.Signs.{negative};
 ghost use Rattle.floats.specs.Convert.{converted};
 ghost use Rattle.floats.specs.Whole.{floored, ceiled};
@@ -61,19 +63,24 @@ pub fn count_to_f32(count: u32) -> f32
     count as f32
 }
 
+// The whole part of a number from 0 up to 2^64. The toolchain's cut branches at 1; here a number below 1 is cut as 1,
+// and that 1 is subtracted again, so that the processor has no branch to guess.
+pub fn whole_part(x: f64) -> u64
+    requires { ⌜ T (le f64Zero x) × T (lt x (fin false 1 (pos 64))) ⌝ }
+    ensures { λ r. ⌜ r ≡ toUnsigned 64 x ⌝ }
+{
+    let cut = std::num::truncating_f64_to_u64(max_f64(1.0, x));
+    cut - (x < 1.0) as u64
+}
+
 // Rust's `x as u64`: toward zero, to the nearest end of the range where x is out of it, 0 for a NaN.
 pub fn f64_to_u64(x: f64) -> u64
     ensures { λ r. ⌜ r ≡ toUnsigned 64 x ⌝ }
 {
-    if x > -1.0 {
-        if x < 18446744073709551616.0 {
-            std::num::truncating_f64_to_u64(x)
-        } else {
-            u64::MAX
-        }
-    } else {
-        0
+    if x >= 18446744073709551616.0 {
+        return u64::MAX;
     }
+    whole_part(max_f64(0.0, x))
 }
 
 pub fn f32_to_u64(x: f32) -> u64
