@@ -8,7 +8,7 @@ use sage_core::ml::kde::Parts;
 use vayemuku_sys::{self as sys, Checked, EstimatorRef, Ranking, TableRef};
 
 /// The coefficients of a model, a feature row, or a row of a system.
-pub type Row = [f64; FEATURES];
+pub type Vector = [f64; FEATURES];
 
 /// An answer before a call.
 const UNWRITTEN: usize = 0x5a5a_5a5a;
@@ -28,13 +28,13 @@ pub fn estimator(parts: &Parts) -> EstimatorRef<'_> {
 }
 
 /// The answer of a system.
-pub fn solve(left: &[Row; FEATURES], right: &Row, size: usize) -> (u32, Row) {
+pub fn solve(left: &[Vector; FEATURES], right: &Vector, size: usize) -> (u32, Vector) {
     let mut values = [UNWRITTEN_FLOAT; FEATURES];
     (sys::solve(left, right, size, &mut values).number, values)
 }
 
 /// The coefficients of a fit.
-pub fn train(features: &[f64], labels: &[i32]) -> (u32, Row) {
+pub fn train(features: &[f64], labels: &[i32]) -> (u32, Vector) {
     let mut coefficients = [UNWRITTEN_FLOAT; FEATURES];
     (sys::train(features, labels, &mut coefficients).number, coefficients)
 }

@@ -6,7 +6,7 @@ mod solve;
 pub mod systems;
 pub mod train;
 
-use crate::calls::Row;
+use crate::calls::Vector;
 use crate::cases::Random;
 use crate::lists::{label, LONGEST};
 use crate::sage::room_for;
@@ -15,7 +15,7 @@ use systems::moderate;
 use train::Fits;
 
 /// The memory for a row: its features, its label, sage's mark of a decoy, and both scores.
-const ROW_BYTES: usize = size_of::<Row>() + 20;
+const ROW_BYTES: usize = size_of::<Vector>() + 20;
 
 /// The numbers of random systems and of random fits; there are as many scoring runs as fits.
 pub struct Plan {
@@ -64,7 +64,7 @@ fn fits_and_scores(fits: u64) -> bool {
 /// A list of 16,777,215 rows.
 fn longest(train: &mut Fits, scores: &mut Scores) {
     let mut random = Random::new(15);
-    let rows: Vec<Row> = (0..LONGEST).map(|_| std::array::from_fn(|_| moderate(&mut random))).collect();
+    let rows: Vec<Vector> = (0..LONGEST).map(|_| std::array::from_fn(|_| moderate(&mut random))).collect();
     let labels: Vec<i32> = (0..LONGEST).map(|place| label(random.below(3) == 0, place)).collect();
     train.check(&rows, &labels);
     scores.check(&std::array::from_fn(|_| moderate(&mut random)), &rows);

@@ -9,7 +9,7 @@ use host::kernel::Kernels;
 use host::rescoring::{rescore, Rescored};
 use host::{Call, Densities, Names, Refusal, Refused, Tolerance};
 use sage::{Recorded, SageRun};
-use table::{Cells, Row};
+use table::{Cells, SampleRow};
 
 /// The tolerances that the sample is compared under; the program's list is made under the first. Under these no two
 /// sides of proteins have equal scores: sage ranks those in the order of its map.
@@ -52,9 +52,9 @@ pub fn run(table: &str, list: &str, refused: &str) -> bool {
 }
 
 /// host's rescore of rows.
-fn rescored(rows: &[Row], tolerance: Tolerance, densities: &mut dyn Densities) -> Result<Rescored, Refused> {
-    let psms: Vec<_> = rows.iter().map(Row::psm).collect();
-    let keys: Vec<_> = rows.iter().map(Row::key).collect();
+fn rescored(rows: &[SampleRow], tolerance: Tolerance, densities: &mut dyn Densities) -> Result<Rescored, Refused> {
+    let psms: Vec<_> = rows.iter().map(SampleRow::psm).collect();
+    let keys: Vec<_> = rows.iter().map(SampleRow::key).collect();
     rescore(&psms, &keys, Names::Two, tolerance, densities)
 }
 

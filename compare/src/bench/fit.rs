@@ -1,7 +1,7 @@
 //! Modules 2 and 3: elimination, the fit and the scoring run, one thread on either side.
 
 use super::{head, in_rounds, nanoseconds, ROUNDS};
-use crate::calls::{train, Row};
+use crate::calls::{train, Vector};
 use crate::cases::Random;
 use crate::fit::systems::{gram, moderate, System};
 use crate::lists::label;
@@ -122,7 +122,7 @@ fn solving(name: &str, size: usize, fails: bool) -> Result<(), String> {
 /// The fit.
 fn training(name: &str, (rows, calls, rounds): (usize, usize, usize)) -> Result<(), String> {
     let mut random = Random::new(18);
-    let features: Vec<Row> = (0..rows).map(|_| std::array::from_fn(|_| moderate(&mut random))).collect();
+    let features: Vec<Vector> = (0..rows).map(|_| std::array::from_fn(|_| moderate(&mut random))).collect();
     let labels: Vec<i32> = (0..rows).map(|place| label(random.below(2) == 0, place)).collect();
     let decoys: Vec<bool> = labels.iter().map(|label| *label == -1).collect();
     let mut answer = (0, [0.0; FEATURES]);
@@ -144,8 +144,8 @@ fn training(name: &str, (rows, calls, rounds): (usize, usize, usize)) -> Result<
 /// The scoring run.
 fn scoring(name: &str, (rows, calls, rounds): (usize, usize, usize)) -> Result<(), String> {
     let mut random = Random::new(19);
-    let coefficients: Row = std::array::from_fn(|_| moderate(&mut random));
-    let features: Vec<Row> = (0..rows)
+    let coefficients: Vector = std::array::from_fn(|_| moderate(&mut random));
+    let features: Vec<Vector> = (0..rows)
         .map(|_| {
             let size = 2f64.powi(random.below(60) as i32 - 30);
             std::array::from_fn(|_| size * moderate(&mut random))

@@ -18,7 +18,7 @@ use vayemuku_sys::{add_rows, fresh_table, winners, Ranking};
 const BEFORE: f32 = 0.5;
 
 /// A row: its slot, label and score.
-type Row = (u32, i32, f32);
+type BatchRow = (u32, i32, f32);
 
 /// The lines of the module.
 pub fn lines() -> Vec<bool> {
@@ -46,15 +46,15 @@ fn feature(peptide: u32, label: i32, score: f32) -> Feature {
 }
 
 /// sage's q-values of proteins, and its count.
-fn sage(db: &IndexedDatabase, rows: &[Row], parts: &Parts) -> (Vec<f32>, usize) {
-    let row = |&(slot, label, score): &Row| feature(2 * slot + u32::from(label == -1), label, score);
+fn sage(db: &IndexedDatabase, rows: &[BatchRow], parts: &Parts) -> (Vec<f32>, usize) {
+    let row = |&(slot, label, score): &BatchRow| feature(2 * slot + u32::from(label == -1), label, score);
     let mut rows: Vec<Feature> = rows.iter().map(row).collect();
     let count = forcing(parts.clone(), || picked_protein(db, &mut rows));
     (rows.iter().map(|row| row.protein_q).collect(), count)
 }
 
 /// The port's table of two slots with these rows.
-fn table(rows: &[Row]) -> CompetitionTable {
+fn table(rows: &[BatchRow]) -> CompetitionTable {
     let mut table = CompetitionTable {
         forward: vec![0.5; 2],
         reverse: vec![0.5; 2],
@@ -68,7 +68,7 @@ fn table(rows: &[Row]) -> CompetitionTable {
 }
 
 /// The port's q-values of rows in a table, and its count; `two_names` is 0 for one name.
-fn assigned(two_names: u32, table: &CompetitionTable, rows: &[Row], parts: &Parts) -> (Vec<f32>, usize) {
+fn assigned(two_names: u32, table: &CompetitionTable, rows: &[BatchRow], parts: &Parts) -> (Vec<f32>, usize) {
     let Rows { slots, labels, .. } = columns(rows);
     let (mut keys, mut spare, mut q) = ([5; 4], [5; 4], vec![BEFORE; rows.len()]);
     let ranking = Ranking { keys: &mut keys, spare: &mut spare, q: &mut q };
@@ -85,7 +85,7 @@ fn port_winners(table: &CompetitionTable) -> ([f32; 2], [u32; 2]) {
 }
 
 /// The port's q-values of rows in a table of them alone, and its count.
-fn port(two_names: u32, rows: &[Row], parts: &Parts) -> (Vec<f32>, usize) {
+fn port(two_names: u32, rows: &[BatchRow], parts: &Parts) -> (Vec<f32>, usize) {
     assigned(two_names, &table(rows), rows, parts)
 }
 
@@ -143,7 +143,7 @@ fn one_name() -> bool {
 
 /// Sides scored 1.0: sage's answers under several names of the two proteins.
 fn tied() -> Vec<bool> {
-    let answers = |rows: &[Row], parts: &Parts| -> BTreeSet<String> {
+    let answers = |rows: &[BatchRow], parts: &Parts| -> BTreeSet<String> {
         let under = |name: u32| sage(&database(["P", &format!("Q{name}")], true), rows, parts).0;
         (0..32).map(|name| format!("{:?}", under(name))).collect()
     };

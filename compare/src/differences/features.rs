@@ -1,6 +1,6 @@
 //! FEATURE_NAMES beside what score_psms computes: at seven places the name describes something else.
 
-use crate::calls::Row;
+use crate::calls::Vector;
 use crate::cases::Random;
 use crate::fdr::runs::transformed;
 use crate::kde::draws::between;
@@ -57,7 +57,7 @@ fn say(features: &str, same: bool, wanted: bool) -> bool {
 /// The scores that sage's own fit gives, of features of which one may be as it is named.
 fn scores(rows: &[Feature], of_masses: &Build, named: Option<Named>) -> Option<Vec<f64>> {
     let estimator = Estimator::from_parts(of_masses.estimator.clone());
-    let features = |row: &Feature| -> Row {
+    let features = |row: &Feature| -> Vector {
         let mut features = transformed(row, estimator.posterior_error(row.delta_mass.into()));
         if let Some((place, _, read)) = named {
             features[place] = read(row);

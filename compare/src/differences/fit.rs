@@ -1,7 +1,7 @@
 //! Modules 2 and 3.
 
 use super::{check, unless_it_panics};
-use crate::calls::{solve, train, Row};
+use crate::calls::{solve, train, Vector};
 use host::FEATURES;
 use sage_core::mass::Tolerance;
 use sage_core::ml::gauss::Gauss;
@@ -53,7 +53,7 @@ fn fits() -> Vec<bool> {
     let zero = LinearDiscriminantAnalysis::from_coefficients(zeros.to_vec()).score(&row);
     let mut rows = [[0.0; FEATURES]; 2];
     rows[1][0] = f64::MAX;
-    let of_sage = LinearDiscriminantAnalysis::train(&rows, &[true, false], |row: &Row| *row);
+    let of_sage = LinearDiscriminantAnalysis::train(&rows, &[true, false], |row: &Vector| *row);
     let of_sage = of_sage.map(|fit| (fit.coefficients()[0], fit.score(&rows[1])));
     let (number, coefficients) = train(rows.as_flattened(), &[-1, 1]);
     let (mut scores, mut narrowed) = ([0.0; 2], [0.0; 2]);
@@ -80,7 +80,7 @@ fn fits() -> Vec<bool> {
 /// Columns of other lengths.
 fn lengths() -> Vec<bool> {
     let rows = [[0.0; FEATURES], [1.0; FEATURES]];
-    let fit = unless_it_panics(|| LinearDiscriminantAnalysis::train(&rows, &[true], |row: &Row| *row).is_some());
+    let fit = unless_it_panics(|| LinearDiscriminantAnalysis::train(&rows, &[true], |row: &Vector| *row).is_some());
     let of_19 = LinearDiscriminantAnalysis::from_coefficients(vec![1.0; FEATURES]).score(&[1.0; 19]);
     let (mut scores, mut narrowed) = ([0.0], [0.0]);
     let number = score_rows(&[1.0; FEATURES], &[1.0; 19], &mut scores, &mut narrowed).number;
@@ -94,7 +94,7 @@ fn lengths() -> Vec<bool> {
 fn regular_fit() -> bool {
     let mut rows = [[0.0; FEATURES]; 3];
     (rows[0][0], rows[0][1], rows[1][0], rows[1][1]) = (1.0, 2.0, -1.0, -2.0);
-    let sage = LinearDiscriminantAnalysis::train(&rows, &[true, true, false], |row: &Row| *row);
+    let sage = LinearDiscriminantAnalysis::train(&rows, &[true, true, false], |row: &Vector| *row);
     let port = train(rows.as_flattened(), &[-1, -1, 1]).0;
     check("decoys 1 2 and -1 -2, a target of zeros", (sage.map(|fit| fit.coefficients()[0]), "None"), (port, "7"))
 }

@@ -7,7 +7,7 @@ use super::draws::Rows;
 use super::picked::{database, Function, Sage, SHARED};
 use super::reading::NO_PART;
 use super::Calls;
-use crate::calls::{self, bin_count, bin_scores, spectrum_q_value, train, Row};
+use crate::calls::{self, bin_count, bin_scores, spectrum_q_value, train, Vector};
 use crate::cases::Random;
 use crate::kde::draws::{between, one_of};
 use crate::kde::psms::row;
@@ -104,7 +104,7 @@ fn scored(raw: &[Feature], unit: usize, width: f32, builds: &[Build]) -> Result<
     let of_masses = estimator(&mass_errors, &labels, 0, bins, [2.0, 0.1][unit], &builds[0])?;
     let mut of_mass = vec![GARBAGE; raw.len()];
     errors(&of_masses, &mass_errors, &mut of_mass)?;
-    let features: Vec<Row> = raw.iter().zip(&of_mass).map(|(row, error)| transformed(row, *error)).collect();
+    let features: Vec<Vector> = raw.iter().zip(&of_mass).map(|(row, error)| transformed(row, *error)).collect();
     let (number, coefficients) = train(features.as_flattened(), &labels);
     if number != 0 {
         return Ok(None);
@@ -149,7 +149,7 @@ fn errors(parts: &Parts, scores: &[f64], column: &mut [f64]) -> Result<(), Strin
 }
 
 /// The host's transformation of a row: the lines of score_psms.
-pub fn transformed(perc: &Feature, mass_error: f64) -> Row {
+pub fn transformed(perc: &Feature, mass_error: f64) -> Vector {
     let poisson = match (-perc.poisson).ln_1p() {
         x if x.is_finite() => x,
         _ => 3.5,

@@ -1,7 +1,7 @@
 //! The feature rows and labels that fits and scores are tried on.
 
 use super::systems::{moderate, pick, power_of_ten, whole, SPECIAL};
-use crate::calls::Row;
+use crate::calls::Vector;
 use crate::cases::{partner, random_float, Random};
 use crate::lists::label;
 use host::FEATURES;
@@ -20,7 +20,7 @@ fn labels(random: &mut Random, longest: u64) -> Vec<i32> {
 }
 
 /// A random list of up to `longest` rows with labels.
-pub fn random_list(random: &mut Random, longest: u64) -> (Vec<Row>, Vec<i32>) {
+pub fn random_list(random: &mut Random, longest: u64) -> (Vec<Vector>, Vec<i32>) {
     let labels = labels(random, longest);
     let mut rows = vec![[0.0; FEATURES]; labels.len()];
     let kinds = pick(random, &[6, 9, 9, 11]);
@@ -42,7 +42,7 @@ pub fn random_list(random: &mut Random, longest: u64) -> (Vec<Row>, Vec<i32>) {
 }
 
 /// Fills a column by `kind` under 11; the last two have sizes that overflow and NaNs.
-fn fill_column(random: &mut Random, rows: &mut [Row], labels: &[i32], column: usize, kind: u64) {
+fn fill_column(random: &mut Random, rows: &mut [Vector], labels: &[i32], column: usize, kind: u64) {
     let earlier = random.below(column as u64 + 1) as usize;
     let (one, factor) = (moderate(random), whole(random));
     let small = power_of_ten(random, 8).min(1.0);
@@ -64,7 +64,7 @@ fn fill_column(random: &mut Random, rows: &mut [Row], labels: &[i32], column: us
 }
 
 /// Random coefficients, all of them finite.
-pub fn finite_coefficients(random: &mut Random) -> Row {
+pub fn finite_coefficients(random: &mut Random) -> Vector {
     let kind = random.below(6);
     let mut row = numbers(random, kind);
     row.iter_mut().filter(|x| !x.is_finite()).for_each(|x| *x = 1.5);
@@ -73,7 +73,7 @@ pub fn finite_coefficients(random: &mut Random) -> Row {
 
 /// Twenty random numbers, by `kind` under 6: one of any pattern and zeros beside it, or moderate, of different sizes,
 /// zeros, specials or of any pattern.
-fn numbers(random: &mut Random, kind: u64) -> Row {
+fn numbers(random: &mut Random, kind: u64) -> Vector {
     if kind == 0 {
         let mut row = [pick(random, &[0.0, -0.0]); FEATURES];
         row[random.below(FEATURES as u64) as usize] = random_float(random);
@@ -89,7 +89,7 @@ fn numbers(random: &mut Random, kind: u64) -> Row {
 }
 
 /// Random coefficients and a row: of any kind, with terms that nearly cancel, or with one coefficient 1, the others 0.
-pub fn random_pair(random: &mut Random) -> (Row, Row) {
+pub fn random_pair(random: &mut Random) -> (Vector, Vector) {
     let [mut coefficients, mut row] = [0; 2].map(|_| {
         let kind = random.below(6);
         numbers(random, kind)
@@ -113,7 +113,7 @@ pub fn random_pair(random: &mut Random) -> (Row, Row) {
 }
 
 /// Random rows for these coefficients: of any kind, or with one number that makes the score near to any float.
-pub fn random_rows(random: &mut Random, coefficients: &Row, length: usize) -> Vec<Row> {
+pub fn random_rows(random: &mut Random, coefficients: &Vector, length: usize) -> Vec<Vector> {
     let place = random.below(FEATURES as u64) as usize;
     let single = |x: f64| {
         let mut row = [0.0; FEATURES];

@@ -1,7 +1,7 @@
 //! A row's score and the scoring run beside sage's score, and Rust's `as f32`.
 
 use super::rows::{finite_coefficients, random_pair, random_rows};
-use crate::calls::Row;
+use crate::calls::Vector;
 use crate::cases::Random;
 use crate::lists::LONGEST;
 use crate::report::{expect, expect_all, expect_column, Answer, Tally};
@@ -58,7 +58,7 @@ impl Scores {
     }
 
     /// Compares the score of one row.
-    fn check_single(&mut self, (coefficients, row): (Row, Row)) {
+    fn check_single(&mut self, (coefficients, row): (Vector, Vector)) {
         let port = score(&coefficients, &row);
         let sage = LinearDiscriminantAnalysis::from_coefficients(coefficients.to_vec()).score(&row);
         self.single.count(is_score(port, &coefficients, &row, sage), || {
@@ -67,7 +67,7 @@ impl Scores {
     }
 
     /// Compares one run: each score with sage's, and its narrowing with Rust's.
-    pub fn check(&mut self, coefficients: &Row, rows: &[Row]) {
+    pub fn check(&mut self, coefficients: &Vector, rows: &[Vector]) {
         let (mut scores, mut narrowed) = (vec![GARBAGE; rows.len()], vec![GARBAGE as f32; rows.len()]);
         let returned = score_rows(coefficients, rows.as_flattened(), &mut scores, &mut narrowed);
         let sage = LinearDiscriminantAnalysis::from_coefficients(coefficients.to_vec());
@@ -132,7 +132,7 @@ impl Scores {
     }
 
     /// A run with result columns of these lengths is refused, and leaves blanks.
-    fn refused(&mut self, coefficients: &Row, features: &[f64], [scores, narrowed]: [usize; 2], wanted: u32) {
+    fn refused(&mut self, coefficients: &Vector, features: &[f64], [scores, narrowed]: [usize; 2], wanted: u32) {
         let (mut scores, mut narrowed) = (vec![GARBAGE; scores], vec![GARBAGE as f32; narrowed]);
         let returned = score_rows(coefficients, features, &mut scores, &mut narrowed);
         let outcome = expect("number", returned.number, wanted)
@@ -151,7 +151,7 @@ impl Scores {
 
 /// Whether a score is the sum in order, starting at +0.0, and is sage's. sage's may be a zero of the other sign, since
 /// Rust leaves open where a sum starts.
-fn is_score(port: f64, coefficients: &Row, row: &Row, sage: f64) -> bool {
+fn is_score(port: f64, coefficients: &Vector, row: &Vector, sage: f64) -> bool {
     let ruled = coefficients.iter().zip(row).fold(0.0, |sum, (w, x)| sum + w * x);
     port.same(ruled) && (port.same(sage) || port == 0.0 && sage == 0.0)
 }

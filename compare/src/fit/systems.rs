@@ -1,6 +1,6 @@
 //! The systems that elimination is tried on.
 
-use crate::calls::Row;
+use crate::calls::Vector;
 use crate::cases::{partner, random_float, Random};
 use host::FEATURES;
 use sage_core::ml::matrix::Matrix;
@@ -44,8 +44,8 @@ const OF_SIZE_3: [f64; 5] = [0.0, 1.0, -2.0, f64::NAN, f64::NEG_INFINITY];
 #[derive(Clone)]
 pub struct System {
     pub size: usize,
-    pub left: [Row; FEATURES],
-    pub right: Row,
+    pub left: [Vector; FEATURES],
+    pub right: Vector,
 }
 
 impl System {
@@ -119,13 +119,13 @@ pub fn every_eps() -> Vec<f64> {
 
 /// The symmetric matrix of `rank` random rows, as a fit has it.
 pub fn gram(random: &mut Random, system: &mut System, rank: usize) {
-    let rows: Vec<Row> = (0..rank).map(|_| std::array::from_fn(|_| moderate(random))).collect();
+    let rows: Vec<Vector> = (0..rank).map(|_| std::array::from_fn(|_| moderate(random))).collect();
     system.set(|i, j| rows.iter().map(|row| row[i] * row[j]).sum());
 }
 
 /// The product of two matrices of whole numbers: exactly singular where `rank` is under the size.
 fn product(random: &mut Random, system: &mut System, rank: usize) {
-    let mut numbers = || -> Vec<Row> { (0..rank).map(|_| std::array::from_fn(|_| whole(random))).collect() };
+    let mut numbers = || -> Vec<Vector> { (0..rank).map(|_| std::array::from_fn(|_| whole(random))).collect() };
     let (a, b) = (numbers(), numbers());
     system.set(|i, j| a.iter().zip(&b).map(|(a, b)| a[i] * b[j]).sum());
 }

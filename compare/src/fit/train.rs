@@ -1,7 +1,7 @@
 //! The fit beside sage's LinearDiscriminantAnalysis::train.
 
 use super::rows::random_list;
-use crate::calls::{train, Row};
+use crate::calls::{train, Vector};
 use crate::cases::Random;
 use crate::lists::{label, LONGEST};
 use crate::report::{expect, expect_all, expect_column, Tally};
@@ -33,7 +33,7 @@ impl Fits {
     }
 
     /// Compares one fit with sage's.
-    pub fn check(&mut self, rows: &[Row], labels: &[i32]) {
+    pub fn check(&mut self, rows: &[Vector], labels: &[i32]) {
         let (wanted, coefficients) = fit_of_sage(rows, labels);
         self.kinds.iter_mut().filter(|kind| kind.0 == wanted).for_each(|kind| kind.1 += 1);
         let (number, port) = train(rows.as_flattened(), labels);
@@ -125,7 +125,7 @@ impl Fits {
 }
 
 /// sage's coefficients with 0, or twenty NaN with 6 where a class is absent and else 7: sage does not say which.
-pub fn fit_of_sage(rows: &[Row], labels: &[i32]) -> (u32, Vec<f64>) {
+pub fn fit_of_sage(rows: &[Vector], labels: &[i32]) -> (u32, Vec<f64>) {
     let decoys: Vec<bool> = labels.iter().map(|label| *label == -1).collect();
     match LinearDiscriminantAnalysis::train(rows, &decoys, |row| *row) {
         Some(fit) => (0, fit.coefficients().to_vec()),

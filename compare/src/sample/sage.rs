@@ -1,6 +1,6 @@
 //! sage's unchanged functions over the sample, and the densities that they took.
 
-use super::table::{Row, TAG};
+use super::table::{SampleRow, TAG};
 use super::ListRow;
 use host::Densities;
 use sage_core::database::IndexedDatabase;
@@ -27,7 +27,7 @@ pub struct SageRun {
 
 impl SageRun {
     /// Scores and ranks rows, and assigns q-values, with decoys that sage generated; None where score_psms gives none.
-    pub fn run(rows: &[Row], tolerance: host::Tolerance) -> Option<SageRun> {
+    pub fn run(rows: &[SampleRow], tolerance: host::Tolerance) -> Option<SageRun> {
         let mut features: Vec<Feature> = rows.iter().map(|row| row.feature.clone()).collect();
         let (scored, mut builds) = recording(|| score_psms(&mut features, of_sage(tolerance)));
         scored?;
@@ -51,7 +51,7 @@ impl SageRun {
     }
 
     /// How many sides of proteins have the score of another: sage ranks those in the order of its map.
-    pub fn ties(&self, rows: &[Row]) -> usize {
+    pub fn ties(&self, rows: &[SampleRow]) -> usize {
         let mut best = HashMap::new();
         for feature in &self.features {
             if let Some(key) = rows[feature.peptide_idx.0 as usize].key() {
@@ -74,8 +74,8 @@ fn of_sage(tolerance: host::Tolerance) -> Tolerance {
 }
 
 /// A database with one peptide per row.
-fn database(rows: &[Row]) -> IndexedDatabase {
-    let peptide = |row: &Row| Peptide {
+fn database(rows: &[SampleRow]) -> IndexedDatabase {
+    let peptide = |row: &SampleRow| Peptide {
         decoy: row.feature.label == -1,
         proteins: row.proteins.iter().map(|name| Arc::from(name.as_str())).collect(),
         ..Peptide::default()

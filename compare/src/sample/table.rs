@@ -14,7 +14,7 @@ pub struct Cells {
 }
 
 /// A row of the sample: what sage keeps of it, and its proteins without the tag of decoys.
-pub struct Row {
+pub struct SampleRow {
     pub feature: Feature,
     pub proteins: Vec<String>,
 }
@@ -44,13 +44,13 @@ impl Cells {
     }
 
     /// The rows of the sample.
-    pub fn rows(&self) -> Vec<Row> {
+    pub fn rows(&self) -> Vec<SampleRow> {
         self.rows.iter().enumerate().map(|(place, row)| self.row(place, row)).collect()
     }
 
     /// One row: the columns of sage's results table, in the fields that sage writes them from. Outputs start with the
     /// values that scoring.rs gives them.
-    fn row(&self, place: usize, row: &[String]) -> Row {
+    fn row(&self, place: usize, row: &[String]) -> SampleRow {
         let feature = Feature {
             peptide_idx: PeptideIx(place as u32),
             psm_id: self.number(row, "psm_id"),
@@ -83,7 +83,7 @@ impl Cells {
         };
         let names = self.text(row, "proteins").split(';');
         let proteins = names.map(|name| name.strip_prefix(TAG).unwrap_or(name).to_string());
-        Row { feature, proteins: proteins.collect() }
+        SampleRow { feature, proteins: proteins.collect() }
     }
 
     /// The rows of a list; psm_id is one more than the place in the sample.
@@ -99,7 +99,7 @@ impl Cells {
     }
 }
 
-impl Row {
+impl SampleRow {
     /// The row, as host takes it.
     pub fn psm(&self) -> Psm {
         let feature = &self.feature;

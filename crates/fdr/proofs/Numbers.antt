@@ -3,7 +3,7 @@ use mathlib.Core.Path.{_≡_, refl, sym, ap, ap₂, _∙_, subst}
 use mathlib.Core.Logic.{inl, inr}
 use mathlib.Core.List.{List, [], _∷_, map}
 use mathlib.Core.Bool.{Bool, true, false, not, cond}
-use Prim.Native.Nat.{ℕ, suc, _+_, _*_, _/_}
+use Prim.Native.Nat.{ℕ, suc, _/_}
 use native.Mathlib.Omega.{arith}
 use lib.Dec.{T, not-T}
 use lib.ListN.{length}
@@ -18,7 +18,7 @@ use Rattle.floats.proofs.Order.{le-left, lt→not-le, lt-of-lt-of-le, min-eithe
 use Rattle.counting.specs.QValues.{minimum, runningMinimum}
 use Rattle.counting.proofs.RunningMinimum.{min-of-number, minimum-number, minimum-most}
 use Rattle.ranking.specs.Inner.Layout.{placeOf, decoyBit}
-use Rattle.ranking.proofs.Packed.{upper-of-with, payload-of-with, bit-of-with}
+use Rattle.ranking.proofs.Packed.{upper-of-with, payload-of-with, with-over, bit-of-with}
 use Rattle.ranking.proofs.Ranks.{AllF32}
 use Rattle.fdr.specs.declared.Settings.{Settings}
 use Rattle.fdr.specs.Sides.{Side}
@@ -117,7 +117,7 @@ written-over (q ∷ qs) [] [] e = refl
 written-over (q ∷ qs) [] (k ∷ ks) e = absurd (omega arith)
 written-over (q ∷ qs) (r ∷ rs) [] e = absurd (omega arith)
 written-over (q ∷ qs) (r ∷ rs) (k ∷ ks) e =
-    ap₂ (λ (a : ℕ) (l : List ℕ). (toBits binary32 q * 4294967296 + a) ∷ l) (payload-of-with (toBits binary32 r) k) (written-over qs rs ks (omega arith))
+    ap₂ _∷_ (with-over (toBits binary32 q) (toBits binary32 r) k) (written-over qs rs ks (omega arith))
 
 -- ---- a ratio above 1.0 and a NaN may stand as 1.0: the minimum starts there
 

@@ -4,7 +4,7 @@ use mathlib.Core.Path.{_≡_, refl, sym, ap, ap₂, _∙_, subst}
 use mathlib.Core.List.{List, [], _∷_, _++_, map, map-map}
 use mathlib.Core.Logic.{inl, inr}
 use mathlib.Core.Bool.{Bool, true, false, cond}
-use Prim.Native.Nat.{ℕ, zero, suc, _+_, _-_, _*_, _%_, _≤_, _<_, suc-le-suc}
+use Prim.Native.Nat.{ℕ, zero, suc, _+_, _-_, _*_, _≤_, _<_, suc-le-suc}
 use native.Mathlib.Nat.{not-suc-le-zero, le-of-suc-le-suc, le-trans, zero-lt-suc, add-zero, add-suc, suc-add, zero-add, le-refl, add-left-comm}
 use native.Mathlib.Omega.{arith}
 use lib.Dec.{T, eqb}
@@ -13,14 +13,13 @@ use lib.ListN.{length, getD, length-map}
 use lib.Ieee.{Float, nan, binary32, fits}
 use Rattle.folds.specs.Inner.All.{All}
 use Rattle.folds.proofs.Tests.{lt-or-ge}
-use Rattle.floats.specs.TotalOrder.{orderKey}
 use Rattle.columns.specs.Refusals.{longest}
 use Rattle.counting.specs.Labels.{isDecoy}
 use Rattle.ranking.specs.Ranking.{Row, ranked}
 use Rattle.ranking.specs.Sorted.{insert, sorted}
-use Rattle.ranking.specs.Inner.Layout.{packed, payload, decoyBit, labelOf}
+use Rattle.ranking.specs.Inner.Layout.{packed, decoyBit, labelOf}
 use Rattle.ranking.proofs.Sorted.{insert-here, insert-past}
-use Rattle.ranking.proofs.Packed.{place-of-packed, decoy-of-packed}
+use Rattle.ranking.proofs.Packed.{place-of-packed, bit-of-packed, decoy-of-packed}
 use Rattle.ranking.proofs.Ranks.{AllF32, Rising, packedFrom, sorted-ranks, in-list}
 use Rattle.competition.specs.Tables.{Table, isSeen}
 use Rattle.fdr.specs.Sides.{Side, sideOf, sidesFrom, seenSides, rankedSides}
@@ -138,14 +137,11 @@ unfolding sidesFrom targetKeys
 few-targets t slot zero = le-refl 0
 few-targets t slot (suc k) = go (isSeen (getD (t .forwardSeen) slot 0)) (isSeen (getD (t .reverseSeen) slot 0)) (sidesFrom t (suc slot) k) (few-targets t (suc slot) k)
   where
-    decoy : (h : ℕ) → (h * 4294967296 + (slot * 2 + 1)) % 2 ≡ 1
-    decoy h = omega arith
-
     go : (f r : Bool) (later : List Side) → targetKeys (map sideKey later) ≤ k
         → targetKeys (map sideKey ((cond f (sideOf t slot false ∷ []) [] ++ cond r (sideOf t slot true ∷ []) []) ++ later)) ≤ suc k
-    go true true later h = let d = decoy (4294967295 - orderKey binary32 (getD (t .reverse) slot nan)) in omega arith
+    go true true later h = let d = bit-of-packed (getD (t .reverse) slot nan) slot true in omega arith
     go true false later h = omega arith
-    go false true later h = let d = decoy (4294967295 - orderKey binary32 (getD (t .reverse) slot nan)) in omega arith
+    go false true later h = let d = bit-of-packed (getD (t .reverse) slot nan) slot true in omega arith
     go false false later h = omega arith
 
 -- the list's keys, as the ranking packs them

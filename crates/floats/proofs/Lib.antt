@@ -16,3 +16,4 @@ pub mod Differences
 pub mod Nans
 pub mod Infinities
 pub mod Extremes
+pub mod Products

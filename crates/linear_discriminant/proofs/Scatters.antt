@@ -5,17 +5,17 @@ use mathlib.Core.Logic.{_⊎_, inl, inr}
 use mathlib.Core.List.{List, []}
 use mathlib.Core.Bool.{Bool, true, false, cond}
 use Prim.Native.Nat.{ℕ, _+_, _*_, _/_, _≤_, _<_, zero-le}
-use native.Mathlib.Nat.{mul-comm}
 use native.Mathlib.Omega.{arith}
-use lib.Dec.{ltb, eqb}
+use lib.Dec.{ltb}
 use lib.IntN.{ℤ}
 use lib.ListN.{getD, replicate}
-use lib.Ieee.{Float, nan, inf, fin, Format, binary64, up, down, unlike, add, sub, mul}
+use lib.Ieee.{Float, nan, binary64, add, sub, mul}
 use borrow.Author.Tests.{lt-ltb, le-ltb, ltb-true}
 use Rattle.folds.specs.Walks.{steps, forRange}
 use Rattle.folds.specs.Lists.{tabulated}
 use Rattle.folds.proofs.Tests.{lt-or-ge}
 use Rattle.floats.specs.Constants.{f64Zero}
+use Rattle.floats.proofs.Products.{product-commutes}
 use Rattle.gauss.specs.Elimination.{Vector, Matrix, row, entry}
 use Rattle.linear_discriminant.specs.Rows.{feature}
 use Rattle.linear_discriminant.specs.Fit.{inClass, addTaken, summed, centredProduct}
@@ -26,33 +26,14 @@ use Rattle.linear_discriminant.proofs.Halves.{width-most, other-has, co
 use Rattle.linear_discriminant.proofs.Accumulated.{kept-added}
 use Rattle.linear_discriminant.proofs.KeptRows.{Adds}
 
--- ---- a product of floats commutes
+-- ---- scatter is symmetric, bit for bit, since a product of floats commutes
 
-unlike-comm : (s t : Bool) → unlike s t ≡ unlike t s
-unlike-comm true true = refl
-unlike-comm true false = refl
-unlike-comm false true = refl
-unlike-comm false false = refl
-
-pub float-mul-comm : (f : Format) (x y : Float) → mul f x y ≡ mul f y x
-unfolding mul
-float-mul-comm f nan nan = refl
-float-mul-comm f nan (inf t) = refl
-float-mul-comm f nan (fin t n d) = refl
-float-mul-comm f (inf s) nan = refl
-float-mul-comm f (inf s) (inf t) = ap inf (unlike-comm s t)
-float-mul-comm f (inf s) (fin t n d) = ap (λ (u : Bool). cond (eqb n 0) nan (inf u)) (unlike-comm s t)
-float-mul-comm f (fin s m e) nan = refl
-float-mul-comm f (fin s m e) (inf t) = ap (λ (u : Bool). cond (eqb m 0) nan (inf u)) (unlike-comm s t)
-float-mul-comm f (fin s m e) (fin t n d) = rw (unlike-comm s t, mul-comm (m * up e) (n * up d), mul-comm (down e) (down d))
-
--- so scatter is symmetric, bit for bit
 pub product-comm : (takes : ℕ → Bool) (features : List Float) (mu : ℕ → Float) (j k n : ℕ)
     → summed takes (centredProduct features mu j k) n ≡ summed takes (centredProduct features mu k j) n
 unfolding summed
 product-comm takes features mu j k n =
     for-range-same 0 n f64Zero
-    (λ i l u s. ap (λ (x : Float). cond (takes i) (add binary64 s x) s) (float-mul-comm binary64 (sub binary64 (feature features i j) (mu j)) (sub binary64 (feature features i k) (mu k))))
+    (λ i l u s. ap (λ (x : Float). cond (takes i) (add binary64 s x) s) (product-commutes binary64 (sub binary64 (feature features i j) (mu j)) (sub binary64 (feature features i k) (mu k))))
 
 -- ---- the tables
 
