@@ -17,10 +17,13 @@ const BINS: usize = 1000;
 /// Times every call; false where both sides do not give the same.
 pub fn run() -> bool {
     println!("{ROWS} rows, {BINS} bins, one thread; every column is allocated before the clock starts.");
-    println!("errors: random scores, a quarter of them past either end of the bins. Beside the port's column call is");
     println!(
-        "sage's posterior_error for each score: \"called\", and \"inlined\" in a loop that stands in its own file."
+        "errors: random scores, a quarter of them past either end of the bins; in bins: none of them past an end."
     );
+    println!(
+        "Beside the port's column call is sage's posterior_error for each score: \"called\", and \"inlined\" in a loop"
+    );
+    println!("that stands in its own file.");
     println!(
         "bin scores, bins: sage has both inside Builder::build, around its kernel. Rust's side is those lines: the"
     );
@@ -29,7 +32,7 @@ pub fn run() -> bool {
     println!("logarithms: Rust's side is `as f32` and is_infinite, as in score_psms; log10 is in neither time.");
     println!("with log10: it is in both. Rust's side is one loop; before the port's call the host fills a column.");
     head(&format!("ns per row, median of {ROUNDS} rounds"));
-    let outcomes = [errors(), step_one(), step_two(), logs()];
+    let outcomes = [errors("errors", 10.0), errors("in bins", 5.0), step_one(), step_two(), logs()];
     for words in outcomes.iter().filter_map(|outcome| outcome.as_ref().err()) {
         println!("{words}");
     }
@@ -42,11 +45,11 @@ fn falling_bins(random: &mut Random) -> Parts {
     Parts { bins, min_score: -5.0, score_step: 10.0 / (BINS - 1) as f64 }
 }
 
-/// Posterior errors.
-fn errors() -> Result<(), String> {
+/// Posterior errors of scores from -span to span, on bins from -5 to 5.
+fn errors(name: &str, span: f64) -> Result<(), String> {
     let mut random = Random::new(12);
     let parts = falling_bins(&mut random);
-    let scores: Vec<f64> = (0..ROWS).map(|_| between(&mut random, -10.0, 10.0)).collect();
+    let scores: Vec<f64> = (0..ROWS).map(|_| between(&mut random, -span, span)).collect();
     let sage = Estimator::from_parts(parts.clone());
     let [mut port_errors, mut called, mut inlined] = [(); 3].map(|()| vec![0.0; ROWS]);
     let mut port = || {
@@ -59,12 +62,12 @@ fn errors() -> Result<(), String> {
         }
         called[ROWS / 2].pattern()
     };
-    side_by_side("errors, called", ROWS, &mut port, call);
+    side_by_side(&format!("{name}, called"), ROWS, &mut port, call);
     let inline = || {
         sage.posterior_errors(&scores, &mut inlined);
         inlined[ROWS / 2].pattern()
     };
-    side_by_side("errors, inlined", ROWS, &mut port, inline);
+    side_by_side(&format!("{name}, inlined"), ROWS, &mut port, inline);
     expect_column("error", &port_errors, called.into_iter())?;
     expect_column("error", &port_errors, inlined.into_iter())
 }

@@ -210,11 +210,11 @@ module _ (last : ℕ) (few : last ≤ 2 ^ 53) (q : Float) where
   q-from = max-ge-left plusZero q tt
 
   -- what the conversion asks
-  pub held-range : T (le plusZero (held last q)) × T (lt (held last q) (fin false 1 (pos 64)))
+  pub held-range : T (lt (fin true 1 (pos 0)) (held last q)) × T (lt (held last q) (fin false 1 (pos 64)))
   held-range = (
     elim (min-either (ofInt binary64 (pos last)) (maxNumber plusZero q)) [
-      | inl e ↦ rw e last-from
-      | inr e ↦ rw e q-from
+      | inl e ↦ rw e (lt-of-lt-of-le (fin true 1 (pos 0)) plusZero (ofInt binary64 (pos last)) (unfold lt in tt) last-from)
+      | inr e ↦ rw e (lt-of-lt-of-le (fin true 1 (pos 0)) plusZero (maxNumber plusZero q) (unfold lt in tt) q-from)
     ],
     lt-of-le-of-lt (held last q) (ofInt binary64 (pos last)) (fin false 1 (pos 64))
         (min-le-left (ofInt binary64 (pos last)) (maxNumber plusZero q) (le-right plusZero (ofInt binary64 (pos last)) last-from))

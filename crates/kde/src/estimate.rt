@@ -18,7 +18,7 @@ fn lower_bin(estimator: Estimator, last: usize, score: f64) -> usize
 {
     let steps = (score - estimator.min_score) / estimator.score_step;
     let held = floats::min_f64(last as f64, floats::max_f64(0.0, steps));
-    floats::whole_part(held) as usize
+    std::num::truncating_f64_to_u64(held) as usize
 }
 
 fn upper_bin(bin_lo: usize, last: usize) -> usize

@@ -22,17 +22,16 @@ cut : (c : tie.After-min-f64)
 unfolding ofBits
 cut c = c .min-f64 .ensures ∙ ap (minNumber (ofInt binary64 (pos (c .before .before .before .before .before .args .last)))) (c .before .max-f64 .ensures)
 
-whole-part-requires : tie.Need-whole-part-requires
-unfolding ofBits
-whole-part-requires c κs = rw (cut c) (held-range (c .before .before .before .before .before .args .last) (omega arith) _)
+truncating-f64-to-u64-requires : tie.Need-truncating-f64-to-u64-requires
+truncating-f64-to-u64-requires c κs = rw (cut c) (held-range (c .before .before .before .before .before .args .last) (omega arith) _)
 
 returns : tie.Need-returns
 returns c =
     let a = c .before .before .before .before .before .before .args in
-    c .whole-part .ensures
+    c .truncating-f64-to-u64 .ensures
     ∙ ap (toUnsigned 64) (cut (c .before))
     ∙ held-is (a .last) (omega arith) (quotient (a .estimator) (a .score))
     ∙ ap (min (a .last)) (sym (steps-are (a .estimator) (a .score)))
 
 pub lower-bin-spec : {M : Type 1} → statement M
-lower-bin-spec = tie.close (tie.spec int-to-float-min-f64 (λ c κs. search needs) (λ c κs. search needs) whole-part-requires returns)
+lower-bin-spec = tie.close (tie.spec int-to-float-min-f64 (λ c κs. search needs) (λ c κs. search needs) truncating-f64-to-u64-requires returns)
