@@ -11,7 +11,7 @@ use columns::Outcome;
 use columns::Refusal;
 
 // The bin at or below a score, or the first. The number of steps is held to the last bin before it is cut to a whole
-// number, so that no score takes a branch; the Rust's floor changes nothing before such a cut.
+// number, so that the cut's own test, at 1, is the only branch; the Rust's floor changes nothing before such a cut.
 fn lower_bin(estimator: Estimator, last: usize, score: f64) -> usize
     requires { ⌜ last < 65536 ⌝ }
     ensures { λ r. ⌜ r ≡ min last (stepsUp estimator score) ⌝ }
