@@ -3,31 +3,36 @@
 use mathlib.Core.Path.{_≡_, refl, sym, ap, ap₂, _∙_}
 use mathlib.Core.Logic.{inl, inr}
 use mathlib.Core.Bool.{Bool, true, false, not, _&&_, cond, true≢false, false≢true}
-use Prim.Native.Nat.{ℕ, suc, _-_, _*_, _/_, _^_, _≤_, _<_, min, max, zero-le}
-use native.Mathlib.Nat.{le-refl, mul-one, one-mul, zero-mul, zero-div, div-one, div-eq-of-lt, eq-of-mul-eq-mul-right}
+use Prim.Native.Nat.{ℕ, suc, _+_, _-_, _*_, _/_, _^_, _≤_, _<_, min, max, zero-le}
+use native.Mathlib.Nat.{le-refl, lt-trans, mul-assoc, mul-one, one-mul, zero-mul, zero-div, div-one, eq-of-mul-eq-mul-right}
 use native.Mathlib.Omega.{arith}
-use borrow.Author.Tests.{ltb-false}
-use lib.Dec.{lit≤, T, ltb, eqb, ltb→lt, eqb→eq, le→leb, lt→ltb}
-use lib.IntN.{pos}
-use mir.Val.{boolByte}
-use denote.Floats.{passes}
-use lib.Pow.{pow-pos}
-use lib.Ieee.{Float, nan, inf, fin, Format, binary64, up, down, isNan, inFloat, ofInt, ofBits, lt, le, div, round, toUnsigned}
+use lib.Dec.{lit≤, T, ltb, eqb, ltb→lt, eqb→eq, lt→ltb}
+use lib.IntN.{pos, negsuc}
+use lib.Pow.{pow-lt, shl-lt}
+use lib.Ieee.{Float, nan, inf, fin, Format, binary64, up, down, isNan, ofInt, add, lt, le, div, round, toUnsigned}
 use lib.Ieee.Fits.{and-l, and-r, down-pos}
-use lib.Ieee.Nearest.{div-mono}
+use lib.Ieee.Nearest.{div-mono, div-same}
 use lib.Ieee.Bits.{is-true}
-use lib.Ieee.Exact.{HasValue}
-use lib.Ieee.Back.{round-whole, unsigned-back}
+use lib.Ieee.Exact.{HasValue, round-exact}
+use lib.Ieee.Back.{round-whole}
 use lib.Ieee.Order.{le-of-values}
-use Rattle.folds.proofs.Tests.{or-split, byte-most}
+use Rattle.folds.proofs.Tests.{or-split}
 use Rattle.floats.specs.Signs.{negative}
-use Rattle.floats.specs.Constants.{f64One}
 use Rattle.floats.specs.MinMax.{minNumber, maxNumber}
 use Rattle.floats.proofs.Signs.{round-sign}
-use Rattle.floats.proofs.Fractions.{lt-at}
-use Rattle.floats.proofs.Order.{le-right, not-lt→le, not-le→lt, lt-of-le-of-lt, lt-of-lt-of-le, min-either, min-le-left, min-le-right, max-either, max-ge-left, max-ge-right}
+use Rattle.floats.proofs.Fractions.{rescale, lt-at, add-values}
+use Rattle.floats.proofs.Order.{le-right, not-le→lt, lt-of-le-of-lt, min-either, min-le-left, min-le-right, max-either, max-ge-left, max-ge-right}
 use Rattle.floats.proofs.Zeros.{plusZero}
 use Rattle.floats.proofs.Infinities.{Off, infinite, some}
+
+-- 1/2
+abbrev pub half : Float
+half = fin false 1 (negsuc 0)
+
+-- a number above 0 by the fraction that it equals
+pub convert-value : (w : ℕ) (x : Float) (a c : ℕ) → 0 < c → HasValue x false a c → toUnsigned w x ≡ min (a / c) (2 ^ w - 1)
+unfolding toUnsigned
+convert-value w (fin s m e) a c C v = rw (v .0) (ap (λ (n : ℕ). min n (2 ^ w - 1)) (div-same (m * up e) (down e) a c (down-pos e) C (v .1)))
 
 -- ---- the order
 
@@ -86,46 +91,13 @@ module _ (w : ℕ) where
     | inr e ↦ rw e (let h : toUnsigned w a ≤ toUnsigned w b = convert-mono a b (rw e at (max-ge-left a b p)) in omega arith)
   ]
 
-  -- what is below 1 converts to 0
-  pub convert-below-one : (x : Float) → T (lt x f64One) → toUnsigned w x ≡ 0
-  unfolding lt toUnsigned ofBits
-  convert-below-one nan p = refl
-  convert-below-one (inf true) p = refl
-  convert-below-one (inf false) p = absurd p
-  convert-below-one (fin true m e) p = refl
-  convert-below-one (fin false m e) p =
-      let c : m * up e < down e = rw (mul-one, one-mul) at (ltb→lt (m * up e * 1) (1 * down e) p) in
-      rw (div-eq-of-lt c) (omega arith)
-
-  -- what is below 0 converts to 0, and so does a NaN
-  pub convert-max-zero : (q : Float) → toUnsigned w (maxNumber plusZero q) ≡ toUnsigned w q
-  unfolding toUnsigned maxNumber lt
-  convert-max-zero nan = omega arith
-  convert-max-zero (inf true) = omega arith
-  convert-max-zero (inf false) = refl
-  convert-max-zero (fin true n d) = omega arith
-  convert-max-zero (fin false n d) = go (ltb (0 * down d) (n * up d * 1)) refl
-    where
-      go : (b : Bool) → ltb (0 * down d) (n * up d * 1) ≡ b → toUnsigned w (cond b (fin false n d) plusZero) ≡ min (n * up d / down d) (2 ^ w - 1)
-      go true h = refl
-      go false h =
-          let none : n * up d ≡ 0 = omega (arith, ltb-false (0 * down d) (n * up d * 1) h, zero-mul (down d), mul-one (n * up d)) in
-          rw (none, zero-div (down d))
-
-  -- what is held to 0 from below, where it is not 2^w or more
-  pub from-zero-range : (q : Float) → le (fin false 1 (pos w)) q ≡ false
-      → T (le plusZero (maxNumber plusZero q)) × T (lt (maxNumber plusZero q) (fin false 1 (pos w)))
-  unfolding isNan lt
-  from-zero-range q below = (
-    from,
-    elim (max-either plusZero q) [
-      | inl e ↦ rw e (lt→ltb 0 (1 * 2 ^ w * 1) (omega (arith, pow-pos w)))
-      | inr e ↦ rw e (not-le→lt q (fin false 1 (pos w)) (le-right plusZero q (rw e at from)) tt (λ t. true≢false (sym (is-true _ t) ∙ below)))
-    ],
-  )
-    where
-      from : T (le plusZero (maxNumber plusZero q))
-      from = max-ge-left plusZero q tt
+  -- what is below 1/2 converts to 0, as 1/2 does, and so does a NaN
+  pub convert-max-half : (q : Float) → toUnsigned w (maxNumber half q) ≡ toUnsigned w q
+  unfolding toUnsigned maxNumber lt isNan
+  convert-max-half nan = omega arith
+  convert-max-half (inf true) = omega arith
+  convert-max-half (inf false) = refl
+  convert-max-half (fin s m e) = convert-max half (fin s m e) tt tt ∙ omega arith
 
   negative-none : (x : Float) → negative x ≡ true → toUnsigned w x ≡ 0
   unfolding toUnsigned
@@ -151,78 +123,55 @@ module _ (w : ℕ) where
           negative-none (round f true (suc m * up e * down d) (n * up d * down e))
           (round-sign f true (suc m * up e * down d) (n * up d * down e))
 
--- ---- a number from 0 on, cut as at least 1, less 1 where it is below 1
+-- ---- what `whole_part` asks, of a float held to at least 1/2
 
-module _ (x : Float) (from : T (le plusZero x)) where
-  from-one : T (le f64One (maxNumber f64One x))
-  unfolding isNan ofBits
-  from-one = max-ge-left f64One x tt
+pub from-half : (q : Float) → T (le half (maxNumber half q))
+unfolding isNan
+from-half q = max-ge-left half q tt
 
-  -- what the cut asks
-  pub cut-range : T (lt x (fin false 1 (pos 64)))
-      → T (lt (fin true 1 (pos 0)) (maxNumber f64One x)) × T (lt (maxNumber f64One x) (fin false 1 (pos 64)))
-  unfolding lt ofBits
-  cut-range below = (
-    lt-of-lt-of-le (fin true 1 (pos 0)) f64One (maxNumber f64One x) tt from-one,
-    elim (max-either f64One x) [
-      | inl e ↦ rw e tt
-      | inr e ↦ rw e below
-    ],
-  )
+pub half-below : (q : Float) → le (fin false 1 (pos 53)) q ≡ false → T (lt (maxNumber half q) (fin false 1 (pos 53)))
+unfolding isNan lt
+half-below q under = elim (max-either half q) [
+  | inl e ↦ rw e tt
+  | inr e ↦ rw e (not-le→lt q (fin false 1 (pos 53)) (le-right half q (rw e at (from-half q))) tt (λ t. true≢false (sym (is-true _ t) ∙ under)))
+]
 
-  cut-one : toUnsigned 64 f64One ≡ 1
-  unfolding toUnsigned ofBits
-  cut-one = refl
+-- ---- a float held between 1/2 and 1/2 past a whole number
 
-  cut-max : toUnsigned 64 (maxNumber f64One x) ≡ max 1 (toUnsigned 64 x)
-  unfolding isNan ofBits
-  cut-max = convert-max 64 f64One x tt (le-right plusZero x from) ∙ ap (λ n. max n (toUnsigned 64 x)) cut-one
-
-  pub cut-at-least : (b : Bool) → boolByte b ≤ toUnsigned 64 (maxNumber f64One x)
-  cut-at-least b = rw cut-max (let h = byte-most b in omega arith)
-
-  pub cut-is : toUnsigned 64 (maxNumber f64One x) - boolByte (lt x f64One) ≡ toUnsigned 64 x
-  unfolding isNan ofBits
-  cut-is = rw cut-max (go (lt x f64One) refl)
-    where
-      go : (b : Bool) → lt x f64One ≡ b → max 1 (toUnsigned 64 x) - boolByte b ≡ toUnsigned 64 x
-      go true e = let h = convert-below-one 64 x (passes _ e) in omega arith
-      go false e =
-          let h : toUnsigned 64 f64One ≤ toUnsigned 64 x = convert-mono 64 f64One x (not-lt→le x f64One (le-right plusZero x from) tt e) in
-          let k = cut-one in
-          omega arith
-
--- ---- a float held between 0 and a whole number
+abbrev pub past-half : ℕ → Float
+past-half last = add binary64 (ofInt binary64 (pos last)) half
 
 abbrev pub held : ℕ → Float → Float
-held last q = minNumber (ofInt binary64 (pos last)) (maxNumber plusZero q)
+held last q = minNumber (past-half last) (maxNumber half q)
 
-module _ (last : ℕ) (few : last ≤ 2 ^ 53) (q : Float) where
-  last-value : HasValue (ofInt binary64 (pos last)) false last 1
+module _ (last : ℕ) (few : last < 2 ^ 52) (q : Float) where
+  past-value : HasValue (past-half last) false (last * 2 + 1) 2
   unfolding ofInt
-  last-value = round-whole binary64 false last (omega arith)
+  past-value =
+      rw (add-values binary64 (ofInt binary64 (pos last)) half (last * 2) 1 2 (lit≤ tt)
+      (rescale (ofInt binary64 (pos last)) false last 1 (last * 2) 2 (lit≤ tt) (sym (mul-one (last * 2))) (round-whole binary64 false last (omega arith))) (refl, refl))
+      (round-exact binary64 false (last * 2 + 1) 2 (last * 2 + 1) 1073 (lit≤ tt) (omega arith)
+      (lt-trans (shl-lt 53 1073 (omega arith)) (pow-lt {i = 1126} {j = 2098} (lit≤ tt))) (sym (mul-assoc (last * 2 + 1) (2 ^ 1073) 2)))
 
-  last-from : T (le plusZero (ofInt binary64 (pos last)))
-  last-from = le-of-values plusZero (ofInt binary64 (pos last)) 0 1 last 1 (lit≤ tt) (lit≤ tt) (refl, refl) last-value (omega arith)
+  past-from : T (le half (past-half last))
+  past-from = le-of-values half (past-half last) 1 2 (last * 2 + 1) 2 (lit≤ tt) (lit≤ tt) (refl, refl) past-value (omega arith)
 
-  q-from : T (le plusZero (maxNumber plusZero q))
-  unfolding isNan
-  q-from = max-ge-left plusZero q tt
-
-  -- what the conversion asks
-  pub held-range : T (lt (fin true 1 (pos 0)) (held last q)) × T (lt (held last q) (fin false 1 (pos 64)))
+  -- what the cut asks
+  pub held-range : T (le half (held last q)) × T (lt (held last q) (fin false 1 (pos 53)))
   held-range = (
-    elim (min-either (ofInt binary64 (pos last)) (maxNumber plusZero q)) [
-      | inl e ↦ rw e (lt-of-lt-of-le (fin true 1 (pos 0)) plusZero (ofInt binary64 (pos last)) (unfold lt in tt) last-from)
-      | inr e ↦ rw e (lt-of-lt-of-le (fin true 1 (pos 0)) plusZero (maxNumber plusZero q) (unfold lt in tt) q-from)
+    elim (min-either (past-half last) (maxNumber half q)) [
+      | inl e ↦ rw e past-from
+      | inr e ↦ rw e (from-half q)
     ],
-    lt-of-le-of-lt (held last q) (ofInt binary64 (pos last)) (fin false 1 (pos 64))
-        (min-le-left (ofInt binary64 (pos last)) (maxNumber plusZero q) (le-right plusZero (ofInt binary64 (pos last)) last-from))
-        (rw (lt-at false false last 1 (2 ^ 64) 1 (lit≤ tt) (lit≤ tt) (ofInt binary64 (pos last)) (fin false 1 (pos 64)) last-value (refl, refl)) (lt→ltb (last * 1) (2 ^ 64 * 1) (omega arith))),
+    lt-of-le-of-lt (held last q) (past-half last) (fin false 1 (pos 53))
+        (min-le-left (past-half last) (maxNumber half q) (le-right half (past-half last) past-from))
+        (rw (lt-at false false (last * 2 + 1) 2 (2 ^ 53) 1 (lit≤ tt) (lit≤ tt) (past-half last) (fin false 1 (pos 53)) past-value (refl, refl)) (lt→ltb ((last * 2 + 1) * 1) (2 ^ 53 * 2) (omega arith))),
   )
 
+  past-is : toUnsigned 64 (past-half last) ≡ last
+  past-is = convert-value 64 (past-half last) (last * 2 + 1) 2 (lit≤ tt) past-value ∙ omega arith
+
   pub held-is : toUnsigned 64 (held last q) ≡ min last (toUnsigned 64 q)
-  unfolding inFloat
   held-is =
-      convert-min 64 (ofInt binary64 (pos last)) (maxNumber plusZero q) (le-right plusZero (ofInt binary64 (pos last)) last-from) (le-right plusZero (maxNumber plusZero q) q-from)
-      ∙ ap₂ min (unsigned-back binary64 64 last (le→leb last (2 ^ 53) few) (omega arith) .1) (convert-max-zero 64 q)
+      convert-min 64 (past-half last) (maxNumber half q) (le-right half (past-half last) past-from) (le-right half (maxNumber half q) (from-half q))
+      ∙ ap₂ min past-is (convert-max-half 64 q)

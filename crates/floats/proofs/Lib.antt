@@ -7,6 +7,7 @@ pub mod Narrowed
 pub mod Widening
 pub mod Whole
 pub mod Convert
+pub mod Shifted
 pub mod MinMax
 pub mod Order
 pub mod TotalOrder

@@ -5,9 +5,8 @@ ghost use mathlib.Core.Path.{_≡_};
 ghost use mathlib.Core.Bool.{false, not};
 ghost use Prim.Native.Nat.{_≤_};
 ghost use lib.Dec.{T};
-ghost use lib.IntN.{pos};
+ghost use lib.IntN.{pos, negsuc};
 ghost use lib.Ieee.{binary32, binary64, fin, toUnsigned, isNan, lt, le};
-ghost use Rattle.floats.specs.Constants.{f64Zero};
 ghost use Rattle.floats.specs.Signs.{negative};
 ghost use Rattle.floats.specs.Convert.{converted};
 ghost use Rattle.floats.specs.Whole.{floored, ceiled};
@@ -63,24 +62,29 @@ pub fn count_to_f32(count: u32) -> f32
     count as f32
 }
 
-// The whole part of a number from 0 up to 2^64. The toolchain's cut branches at 1; here a number below 1 is cut as 1,
-// and that 1 is subtracted again, so that the processor has no branch to guess.
+// The whole part of a number from 1/2 up to 2^53: its digits, the leading one put back, shifted by its exponent. From
+// 1/2 on the shift is of at most 53 places, so that nothing branches at 1.
 pub fn whole_part(x: f64) -> u64
-    requires { ⌜ T (le f64Zero x) × T (lt x (fin false 1 (pos 64))) ⌝ }
+    requires { ⌜ T (le (fin false 1 (negsuc 0)) x) × T (lt x (fin false 1 (pos 53))) ⌝ }
     ensures { λ r. ⌜ r ≡ toUnsigned 64 x ⌝ }
 {
-    let cut = std::num::truncating_f64_to_u64(max_f64(1.0, x));
-    cut - (x < 1.0) as u64
+    let bits = f64::to_bits(x);
+    let exponent = bits / 0x10_0000_0000_0000;
+    let digits = bits % 0x10_0000_0000_0000 + 0x10_0000_0000_0000;
+    digits >> (1075 - exponent)
 }
 
 // Rust's `x as u64`: toward zero, to the nearest end of the range where x is out of it, 0 for a NaN.
 pub fn f64_to_u64(x: f64) -> u64
     ensures { λ r. ⌜ r ≡ toUnsigned 64 x ⌝ }
 {
-    if x >= 18446744073709551616.0 {
-        return u64::MAX;
+    if x >= 9007199254740992.0 {
+        if x >= 18446744073709551616.0 {
+            return u64::MAX;
+        }
+        return std::num::truncating_f64_to_u64(x);
     }
-    whole_part(max_f64(0.0, x))
+    whole_part(max_f64(0.5, x))
 }
 
 pub fn f32_to_u64(x: f32) -> u64

@@ -10,15 +10,15 @@ use crate::Posterior;
 use columns::Outcome;
 use columns::Refusal;
 
-// The bin at or below a score, or the first. The number of steps is held to the last bin before it is cut to a whole
-// number, so that the cut's own test, at 1, is the only branch; the Rust's floor changes nothing before such a cut.
+// The bin at or below a score, or the first. The number of steps is held between the halves of the first and of the
+// last bin before it is cut to a whole number, so that nothing branches; the Rust's floor changes nothing before a cut.
 fn lower_bin(estimator: Estimator, last: usize, score: f64) -> usize
     requires { ⌜ last < 65536 ⌝ }
     ensures { λ r. ⌜ r ≡ min last (stepsUp estimator score) ⌝ }
 {
     let steps = (score - estimator.min_score) / estimator.score_step;
-    let held = floats::min_f64(last as f64, floats::max_f64(0.0, steps));
-    std::num::truncating_f64_to_u64(held) as usize
+    let held = floats::min_f64(last as f64 + 0.5, floats::max_f64(0.5, steps));
+    floats::whole_part(held) as usize
 }
 
 fn upper_bin(bin_lo: usize, last: usize) -> usize

@@ -1,37 +1,27 @@
--- `floats::whole_part` meets its contract: the cut of a number as at least 1, less 1 below 1, by the laws of Convert.
-use mathlib.Core.Path.{_≡_, ap, _∙_}
-use Prim.Native.Nat.{_-_}
+-- `floats::whole_part` meets its contract: how far it shifts, and what it leaves, are laws of Shifted.
+use native.Mathlib.Omega.{arith}
 use borrow.Author.Needs.{needs}
-use mir.Val.{boolByte}
-use lib.Ieee.{ofBits, lt, toUnsigned}
-use Rattle.floats.specs.Constants.{f64One}
-use Rattle.floats.specs.MinMax.{maxNumber}
-use Rattle.floats.proofs.Convert.{cut-range, cut-at-least, cut-is}
+use denote.Floats.{passes}
+use Rattle.floats.proofs.Order.{le-right}
+use Rattle.floats.proofs.Convert.{half}
+use Rattle.floats.proofs.Shifted.{Cut, cut}
 use Rattle.floats.proofs.whole_part.Statement.{statement}
 use Rattle.floats.proofs.whole_part.Tie as tie
 
-truncating-f64-to-u64-requires : tie.Need-truncating-f64-to-u64-requires
-unfolding ofBits
-truncating-f64-to-u64-requires c κs =
-    let d = c .before in
-    rw (c .max-f64 .ensures) (cut-range (d .args .x) (d .pre .0) (d .pre .1))
+bits : (c : tie.Start) → Cut (c .args .x)
+bits c = cut (c .args .x) (passes _ (c .good .0 .1)) (c .pre .0) (c .pre .1)
 
--- the cut number
-cut : (c : tie.After-truncating-f64-to-u64)
-    → c .truncating-f64-to-u64 .result ≡ toUnsigned 64 (maxNumber f64One (c .before .before .args .x))
-cut c = c .truncating-f64-to-u64 .ensures ∙ ap (toUnsigned 64) (c .before .max-f64 .ensures)
+float-to-bits-bits : tie.Need-float-to-bits-bits
+float-to-bits-bits c = le-right half (c .args .x) (c .pre .0)
 
 sub-result : tie.Need-sub-result
-unfolding ofBits
-sub-result c =
-    let d = c .before .before in
-    rw (cut c) (cut-at-least (d .args .x) (d .pre .0) (lt (d .args .x) f64One))
+sub-result c = bits c .most
+
+shr-result : tie.Need-shr-result
+shr-result c = let h = bits c .least in omega arith
 
 returns : tie.Need-returns
-unfolding ofBits
-returns c =
-    let d = c .before .before in
-    ap (_- boolByte (lt (d .args .x) f64One)) (cut c) ∙ cut-is (d .args .x) (d .pre .0)
+returns c = bits c .is
 
 pub whole-part-spec : {M : Type 1} → statement M
-whole-part-spec = tie.close (tie.spec (λ c κs. search needs) truncating-f64-to-u64-requires (λ c. search needs) sub-result returns)
+whole-part-spec = tie.close (tie.spec float-to-bits-bits (λ c. search needs) sub-result shr-result returns)
