@@ -17,7 +17,7 @@ use lib.Ieee.{Float, nan, binary32, le}
 use Rattle.folds.specs.Lists.{filled, tabulated}
 use Rattle.folds.proofs.Tests.{both}
 use Rattle.folds.proofs.Writing.{tabulated-at}
-use Rattle.columns.specs.Refusals.{longest, answered}
+use Rattle.columns.specs.Refusals.{longest, answered, RankedRun, rankedRun}
 use Rattle.columns.specs.declared.Outcome.{Outcome}
 use Rattle.columns.specs.declared.Outcome.the-variants as outcome
 use Rattle.columns.specs.declared.Outcome.the-variants.{Accepted}
@@ -40,7 +40,7 @@ use Rattle.line_check.specs.declared.Line.the-variants.{Wrong}
 use Rattle.line_check.proofs.Check.{wrong-row, right-answered, wrong-answered}
 use Rattle.ranking.specs.Ranking.{rankedRows, asRanked, rankOf}
 use Rattle.ranking.proofs.Places.{length-as-ranked, rank-below}
-use Rattle.precursor.specs.Precursors.{PrecursorRun, precursorRun, precursorAsked, precursorQ, pickedPrecursor}
+use Rattle.precursor.specs.Precursors.{precursorAsked, precursorQ, pickedPrecursor}
 use Rattle.precursor.proofs.Questions.{LengthsMatch, lengths as precursor-lengths}
 use Rattle.agreement.specs.Demand3.{OneRight, LastQualifying, LineCheck, Spectra, Precursors, Demand3}
 
@@ -123,7 +123,7 @@ targets-up c (l ∷ ls) (q ∷ qs) (suc line) e g =
     rw (g 0 (zero-lt-suc (length ls)), leb·suc-suc, leb·zero, targets-up c ls qs line (omega (arith, e)) (λ (i : ℕ) (h : i < length ls). g (suc i) (omega arith) ∙ leb·suc-suc (suc i) line))
 
 precursors-accepted : (o : Outcome) (x count : ℕ) (keys spare : List ℕ) (qs blanks : List Float)
-    → answered o (precursorRun (Passing x) keys spare qs) (λ r. precursorRun (Refused r) keys spare blanks) .answer ≡ Passing count
+    → answered o (rankedRun (Passing x) keys spare qs) (λ r. rankedRun (Refused r) keys spare blanks) .answer ≡ Passing count
     → (o ≡ Accepted) × (count ≡ x)
 precursors-accepted Accepted x count keys spare qs blanks e = (refl, cc)
 precursors-accepted (outcome.Refused r) x count keys spare qs blanks e = let z : _≡_ {A = ℕ} 0 1 = cc in absurd (omega arith)
@@ -164,7 +164,7 @@ module _ (labels : List ℤ) (scores : List Float) (keys spare : List ℕ) (q : 
         let i : rankOf (rankedRows scores) place < length (asRanked labels scores) =
         subst (λ (m : ℕ). rankOf (rankedRows scores) place < m) (sym (length-as-ranked labels scores))
         (rank-below scores place (subst (λ (m : ℕ). place < m) (lengths .0) h)) in
-        ap (λ (w : PrecursorRun). le (getD (w .q) place nan) (oneIn 20)) (if-accepted _ _ (let-in .0))
+        ap (λ (w : RankedRun). le (getD (w .q) place nan) (oneIn 20)) (if-accepted _ _ (let-in .0))
         ∙ ap (λ (x : Float). le x (oneIn 20)) (tabulated-at f (length labels) place nan h)
         ∙ ranked-rows (rankOf (rankedRows scores) place) i;
   }

@@ -8,6 +8,7 @@ use lib.IntN.{ℤ, pos, negsuc}
 use lib.ListN.{getD, replicate}
 use lib.Dec.{T}
 use lib.Ieee.{Float, nan, fin, neg, eq}
+use Rattle.columns.specs.Refusals.{rankedRun}
 use Rattle.columns.specs.declared.Counted.the-variants.{Passing}
 use Rattle.columns.specs.declared.Refusal.the-variants.{Unsolved}
 use Rattle.floats.specs.Constants.{f64Zero}
@@ -27,7 +28,7 @@ use Rattle.competition.specs.Batches.{batchOf, addRows}
 use Rattle.competition.specs.Winners.{slotSeen, decoyFlag}
 use Rattle.fdr.specs.declared.Names.{Names}
 use Rattle.fdr.specs.declared.Settings.{Settings}
-use Rattle.fdr.specs.NameQValues.{assignRun, assignQValue}
+use Rattle.fdr.specs.NameQValues.{assignQValue}
 
 abbrev pub target : ℤ
 target = pos 1
@@ -91,4 +92,4 @@ pub record KnownPoints : Type 0 where
       → let settings : Settings = record { names = names; estimator = estimator (whole 1) (whole 1) } in
       let labels = target ∷ target ∷ [] in
       assignQValue settings twoBins twoSlots (0 ∷ 1 ∷ []) labels (replicate 4 9) (replicate 4 9) (nan ∷ nan ∷ [])
-      ≡ assignRun (Passing 0) (replicate 4 0) (replicate 4 0) (replicate 2 (fin false 7 (negsuc 2)))
+      ≡ rankedRun (Passing 0) (replicate 4 0) (replicate 4 0) (replicate 2 (fin false 7 (negsuc 2)))

@@ -1,5 +1,7 @@
 -- The numbers of refusals. Document 01, "Questions asked of each call, in this order"; "A refusal returns its number".
 use Prim.Native.Nat.{ℕ}
+use mathlib.Core.List.{List}
+use lib.Ieee.{Float}
 use mathlib.Core.Bool.{Bool, cond}
 use Rattle.columns.specs.declared.Refusal.{Refusal}
 use Rattle.columns.specs.declared.Refusal.the-variants.{TooLong, WrongLength, OutOfRange, NoTolerance}
@@ -61,3 +63,13 @@ answered (outcome.Refused r) accepted refused = refused r
 infixr 40 _and_
 abbrev pub _and_ : {A B : Type 0} → A → B → A × B
 a and b = (a, b)
+
+-- what a call that ranks and counts answers, and its working and result columns afterwards
+pub record RankedRun : Type 0 where
+  pub answer : Counted
+  pub keys : List ℕ
+  pub spare : List ℕ
+  pub q : List Float
+
+abbrev pub rankedRun : Counted → List ℕ → List ℕ → List Float → RankedRun
+rankedRun answer keys spare q = record { answer = answer; keys = keys; spare = spare; q = q }

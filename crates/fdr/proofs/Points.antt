@@ -13,6 +13,7 @@ use lib.Ieee.{Float, nan, fin, ofBits, ofInt, toUnsigned, add, sub, mul, div, le
 use Rattle.floats.specs.Constants.{f32One, f32Min}
 use Rattle.floats.specs.MinMax.{minNumber}
 use Rattle.floats.specs.TotalOrder.{before}
+use Rattle.columns.specs.Refusals.{rankedRun}
 use Rattle.ranking.specs.Ranking.{inserted, rankedFrom}
 use Rattle.columns.specs.declared.Counted.the-variants.{Passing}
 use Rattle.counting.specs.QValues.{minimum}
@@ -26,7 +27,7 @@ use Rattle.fdr.specs.declared.Names.the-variants.{Two, One}
 use Rattle.fdr.specs.declared.Settings.{Settings}
 use Rattle.fdr.specs.Sides.{Side, rankedSides}
 use Rattle.fdr.specs.SideQValues.{ratiosFrom, sideQ}
-use Rattle.fdr.specs.NameQValues.{rowQ, rowsQ, assignRun, assignQValue}
+use Rattle.fdr.specs.NameQValues.{rowQ, rowsQ, assignQValue}
 use Rattle.fdr.proofs.Numbers.{length-ratios}
 
 -- ---- the q-values of ranked rows never fall down their list
@@ -53,7 +54,7 @@ twoTargets = tableOf (fin false 1 (pos 1) ∷ fin false 1 (pos 0) ∷ []) (f32Mi
 
 pub two-targets : (names : Names) (a b c d e f g h : ℕ) (x y : Float)
     → assignQValue (fromOne names) halves twoTargets (0 ∷ 1 ∷ []) (pos 1 ∷ pos 1 ∷ []) (a ∷ b ∷ c ∷ d ∷ []) (e ∷ f ∷ g ∷ h ∷ []) (x ∷ y ∷ [])
-    ≡ assignRun (Passing 0) (0 ∷ 0 ∷ 0 ∷ 0 ∷ []) (0 ∷ 0 ∷ 0 ∷ 0 ∷ []) (fin false 7 (negsuc 2) ∷ fin false 7 (negsuc 2) ∷ [])
+    ≡ rankedRun (Passing 0) (0 ∷ 0 ∷ 0 ∷ 0 ∷ []) (0 ∷ 0 ∷ 0 ∷ 0 ∷ []) (fin false 7 (negsuc 2) ∷ fin false 7 (negsuc 2) ∷ [])
 unfolding assignQValue rankedFrom inserted before le minimum minNumber ofBits div add toUnsigned sub mul ofInt
 two-targets Two a b c d e f g h x y = refl
 two-targets One a b c d e f g h x y = refl

@@ -9,10 +9,9 @@ use lib.ListN.{length, getD}
 use lib.Ieee.{Float, nan}
 use Rattle.folds.specs.Lists.{filled, tabulated}
 use Rattle.floats.specs.Constants.{f32One}
-use Rattle.columns.specs.Refusals.{longest, ifNot, answered}
+use Rattle.columns.specs.Refusals.{longest, ifNot, answered, RankedRun, rankedRun}
 use Rattle.columns.specs.declared.Outcome.{Outcome}
 use Rattle.columns.specs.declared.Outcome.the-variants.{Accepted}
-use Rattle.columns.specs.declared.Counted.{Counted}
 use Rattle.columns.specs.declared.Counted.the-variants.{Passing, Refused}
 use Rattle.columns.specs.declared.Refusal.the-variants.{TooLong, WrongLength, OutOfRange, NoSuchSlot}
 use Rattle.counting.specs.Labels.{isDecoy}
@@ -50,16 +49,6 @@ rowsQ settings bins t slots labels =
     let qs = sideQ settings bins sides in
     tabulated (λ i. rowQ (settings .names) sides qs (getD slots i 0) (getD labels i (pos 0))) 0 (length slots)
 
--- what the call answers, and its working and result columns afterwards
-pub record AssignRun : Type 0 where
-  pub answer : Counted
-  pub keys : List ℕ
-  pub spare : List ℕ
-  pub q : List Float
-
-abbrev pub assignRun : Counted → List ℕ → List ℕ → List Float → AssignRun
-assignRun answer keys spare q = record { answer = answer; keys = keys; spare = spare; q = q }
-
 -- questions 1, 2, 3 and 5, of a table, rows of these slots, and the lengths of bins, labels, working columns ("two
 -- entries per slot") and result
 abbrev pub assignAsked : Table → ℕ → List ℕ → ℕ → ℕ → ℕ → ℕ → Outcome
@@ -73,10 +62,10 @@ assignAsked t bins slots labels keys spare q =
 
 -- every row's q-value, and how many targets pass; a refusal leaves NaN. Working columns "hold 0 in every place
 -- afterwards, accepted or refused"
-unfoldable pub assignQValue : Settings → List Float → Table → List ℕ → List ℤ → List ℕ → List ℕ → List Float → AssignRun
+unfoldable pub assignQValue : Settings → List Float → Table → List ℕ → List ℤ → List ℕ → List ℕ → List Float → RankedRun
 unfolding allAllowed passing rowsQ
 assignQValue settings bins t slots labels keys spare q =
     answered (assignAsked t (length bins) slots (length labels) (length keys) (length spare) (length q))
-    (assignRun (Passing (passing settings bins t)) (filled 0 keys) (filled 0 spare)
+    (rankedRun (Passing (passing settings bins t)) (filled 0 keys) (filled 0 spare)
     (rowsQ settings bins t slots labels))
-    (λ r. assignRun (Refused r) (filled 0 keys) (filled 0 spare) (filled nan q))
+    (λ r. rankedRun (Refused r) (filled 0 keys) (filled 0 spare) (filled nan q))

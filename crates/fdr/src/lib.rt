@@ -7,9 +7,10 @@ mod ratios;
 ghost use mathlib.Core.Path.{_≡_};
 ghost use lib.ListN.{length};
 ghost use Rattle.folds.specs.Lists.{filled};
+ghost use Rattle.columns.specs.Refusals.{rankedRun};
 ghost use Rattle.competition.specs.Tables.{tableOf};
 ghost use Rattle.fdr.specs.SideQValues.{passing};
-ghost use Rattle.fdr.specs.NameQValues.{rowsQ, assignRun, assignAsked, assignQValue};
+ghost use Rattle.fdr.specs.NameQValues.{rowsQ, assignAsked, assignQValue};
 ghost use Rattle.fdr.specs.Inner.Passes.{AssignReady};
 use columns::Counted;
 use columns::Outcome;
@@ -132,7 +133,7 @@ pub fn assign_q_value(
     ensures { λ r.
         let table = tableOf (now (forward .entry)) (now (reverse .entry))
         (now («forward_seen» .entry)) (now («reverse_seen» .entry)) in
-        ⌜ assignRun r (now (keys .exit)) (now (spare .exit)) (now (q .exit))
+        ⌜ rankedRun r (now (keys .exit)) (now (spare .exit)) (now (q .exit))
         ≡ assignQValue settings (now (bins .entry)) table (now (slots .entry)) (now (labels .entry))
         (now (keys .entry)) (now (spare .entry)) (now (q .entry)) ⌝ }
 {

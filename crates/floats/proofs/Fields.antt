@@ -16,8 +16,8 @@ use lib.Ieee.Fits.{kept-lt}
 use lib.Ieee.Bits.{is-false, cond-no, ofBits-toBits, nanBits-above}
 use lib.Ieee.Exact.{HasValue, odd-sign}
 use Rattle.folds.proofs.Tests.{lt-or-ge}
-use Rattle.floats.specs.Signs.{negative, absolute}
-use Rattle.floats.proofs.Signs.{no-sign, absolute-fits, bits-sign, magnitude-lt}
+use Rattle.floats.specs.Signs.{negative}
+use Rattle.floats.proofs.Signs.{absolute, no-sign, absolute-fits, bits-sign, magnitude-lt}
 use Rattle.floats.proofs.Values.{unitsOf, toBits-of}
 
 -- ---- the sign

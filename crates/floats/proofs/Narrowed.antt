@@ -17,7 +17,8 @@ use lib.Ieee.Scale.{round-same}
 use Rattle.folds.proofs.Tests.{lt-or-ge}
 use Rattle.floats.specs.Convert.{converted}
 use Rattle.floats.specs.MinMax.{maxNumber}
-use Rattle.floats.specs.Signs.{negative, absolute}
+use Rattle.floats.specs.Signs.{negative}
+use Rattle.floats.proofs.Signs.{absolute}
 use Rattle.floats.proofs.Values.{unitsOf, in-format, units-value}
 use Rattle.floats.proofs.Fractions.{lt-values, le-values, neg-round}
 use Rattle.floats.proofs.Narrowing.{end, rounded, in-range, out-of-range, place-of}

@@ -10,13 +10,19 @@ use lib.IntN.{ℤ, pos}
 use lib.Ieee.{Float, nan, inf, fin, Format, binary32, binary64, prec, low, emax, odd, units, round, lt, fits, isNan, top, toBits}
 use lib.Ieee.Fits.{round-is}
 use lib.Ieee.Bits.{toBits-lt}
-use Rattle.floats.specs.Signs.{negative, absolute}
+use Rattle.floats.specs.Signs.{negative}
 use Rattle.floats.specs.Convert.{converted}
 use Rattle.floats.specs.Whole.{ceiled}
 use Rattle.floats.specs.MinMax.{maxNumber}
 use Rattle.floats.proofs.Order.{le-right, lt→le, lt-of-lt-of-le, max-ge-right}
 
 -- ---- the magnitude
+
+-- Rust's abs()
+abbrev pub absolute : Float → Float
+absolute nan = nan
+absolute (inf s) = inf false
+absolute (fin s m e) = fin false m e
 
 -- what has no minus sign is its own magnitude
 pub no-sign : (x : Float) → negative x ≡ false → absolute x ≡ x

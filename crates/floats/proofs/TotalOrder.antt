@@ -19,13 +19,13 @@ use lib.Ieee.Bits.{ofBits-toBits, toBits-lt}
 use lib.Ieee.Compare.{differs-from-itself}
 use lib.Ieee.Nearest.{div-mono}
 use lib.Ieee.Positive.{num, den}
-use Rattle.floats.specs.Signs.{negative, absolute}
+use Rattle.floats.specs.Signs.{negative}
 use Rattle.floats.specs.TotalOrder.{before, compared, orderKey}
 use Rattle.floats.specs.declared.Ordering.{Ordering}
 use Rattle.floats.specs.declared.Ordering.the-variants.{Less, Equal, Greater}
 use denote.Floats.{passes}
 use Rattle.folds.proofs.Tests.{same-test, yes-or-no, or-split, or-l}
-use Rattle.floats.proofs.Signs.{absolute-fits, bits-sign, magnitude-lt}
+use Rattle.floats.proofs.Signs.{absolute, absolute-fits, bits-sign, magnitude-lt}
 use Rattle.floats.proofs.Values.{unitsOf, in-format, units-below}
 use Rattle.floats.proofs.Order.{both-zero, lt→le, eq→le, lt→not-le, lt-trans, lt-of-le-of-lt, lt-of-lt-of-le}
 

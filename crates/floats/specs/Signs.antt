@@ -1,4 +1,4 @@
--- A float's sign and its magnitude.
+-- A float's sign.
 use mathlib.Core.Bool.{Bool, false}
 use lib.Ieee.{Float, nan, inf, fin}
 
@@ -7,9 +7,3 @@ abbrev pub negative : Float → Bool
 negative nan = false
 negative (inf s) = s
 negative (fin s m e) = s
-
--- Rust's abs()
-abbrev pub absolute : Float → Float
-absolute nan = nan
-absolute (inf s) = inf false
-absolute (fin s m e) = fin false m e

@@ -85,10 +85,6 @@ binScoresOf builder scores column =
 
 -- ---- step two: "bins as decoy / (target + decoy)"
 
--- pi: the decoys over all that take part
-abbrev pub decoyShare : ℕ → ℕ → Float
-decoyShare decoys total = div binary64 (ofInt binary64 (pos decoys)) (ofInt binary64 (pos total))
-
 -- a bin, by its number, from both densities there
 abbrev pub posteriorBin : Float → List Float → List Float → ℕ → Float
 posteriorBin pi decoyDensity targetDensity bin =
@@ -110,19 +106,20 @@ raisedFrom start (b ∷ bins) = maximumFrom start (b ∷ bins) ∷ raisedFrom st
 unfoldable pub raised : List Float → List Float
 raised bins = raisedFrom (getD bins (length bins - 1) nan) bins
 
--- the bins, raised where the builder is monotonic
+-- the bins, raised where the builder is monotonic; pi is the decoys over all that take part
 unfoldable pub binsOf : Builder → ℕ → ℕ → List Float → List Float → List Float
 binsOf builder decoys total decoyDensity targetDensity =
-    let bins = tabulated (posteriorBin (decoyShare decoys total) decoyDensity targetDensity) 0 (builder .bins) in
+    let pi = div binary64 (ofInt binary64 (pos decoys)) (ofInt binary64 (pos total)) in
+    let bins = tabulated (posteriorBin pi decoyDensity targetDensity) 0 (builder .bins) in
     cond (builder .monotonic) (raised bins) bins
 
--- what a call answers, and the column of bins afterwards
-pub record BinsRun : Type 0 where
+-- what a call answers, and its result column afterwards
+pub record ColumnRun : Type 0 where
   pub answer : Outcome
-  pub bins : List Float
+  pub column : List Float
 
-abbrev pub binsRun : Outcome → List Float → BinsRun
-binsRun answer bins = record { answer = answer; bins = bins }
+abbrev pub columnRun : Outcome → List Float → ColumnRun
+columnRun answer column = record { answer = answer; column = column }
 
 -- questions 1, 2 and 3, of a bin count, a list of rows or slots, two densities and a column of bins
 abbrev pub binsAsked : ℕ → ℕ → ℕ → ℕ → ℕ → Outcome
@@ -132,19 +129,19 @@ binsAsked bins listed decoyDensity targetDensity column =
     (ifNot (inRange bins) OutOfRange Accepted))
 
 -- the bins, for a list's number of decoys and of all that take part; a refusal leaves NaN in every place
-unfoldable pub builtBins : Builder → ℕ → ℕ → ℕ → List Float → List Float → List Float → BinsRun
+unfoldable pub builtBins : Builder → ℕ → ℕ → ℕ → List Float → List Float → List Float → ColumnRun
 builtBins builder listed decoys total decoyDensity targetDensity column =
     answered (binsAsked (builder .bins) listed (length decoyDensity) (length targetDensity) (length column))
-    (binsRun Accepted (binsOf builder decoys total decoyDensity targetDensity))
-    (λ r. binsRun (Refused r) (filled nan column))
+    (columnRun Accepted (binsOf builder decoys total decoyDensity targetDensity))
+    (λ r. columnRun (Refused r) (filled nan column))
 
 -- Over labels every row takes part.
-unfoldable pub labelBins : Builder → List ℤ → List Float → List Float → List Float → BinsRun
+unfoldable pub labelBins : Builder → List ℤ → List Float → List Float → List Float → ColumnRun
 labelBins builder labels = builtBins builder (length labels) (decoys labels) (length labels)
 
 -- Over a competition's is_decoy, "1 or 0, a 32-bit number", a slot that holds neither, as an unseen one does, takes no
 -- part.
-unfoldable pub slotBins : Builder → List ℕ → List Float → List Float → List Float → BinsRun
+unfoldable pub slotBins : Builder → List ℕ → List Float → List Float → List Float → ColumnRun
 slotBins builder flags =
     let decoys = howMany (λ (n : ℕ). eqb n 1) flags in
     let targets = howMany (λ (n : ℕ). eqb n 0) flags in

@@ -15,7 +15,7 @@ use Rattle.columns.specs.declared.Outcome.the-variants.{Accepted, Refused}
 use Rattle.kde.specs.declared.Estimator.{Estimator}
 use Rattle.kde.specs.declared.Posterior.{Posterior}
 use Rattle.kde.specs.declared.Posterior.the-variants as posterior
-use Rattle.kde.specs.Bins.{inRange, binScore}
+use Rattle.kde.specs.Bins.{inRange, binScore, ColumnRun, columnRun}
 
 -- how many whole steps a score lies above the least, as Rust's floor() and `as usize` have it
 unfoldable pub stepsUp : Estimator → Float → ℕ
@@ -54,14 +54,6 @@ abbrev pub posteriorValue : Posterior → Float
 posteriorValue (posterior.Error x) = x
 posteriorValue (posterior.Refused r) = nan
 
--- what a call for a column answers, and the column of errors afterwards
-pub record ErrorsRun : Type 0 where
-  pub answer : Outcome
-  pub errors : List Float
-
-abbrev pub errorsRun : Outcome → List Float → ErrorsRun
-errorsRun answer errors = record { answer = answer; errors = errors }
-
 -- questions 1, 2 and 3, of a bin column, a list of scores and a column of errors
 abbrev pub errorsAsked : ℕ → ℕ → ℕ → Outcome
 errorsAsked bins scores errors =
@@ -69,8 +61,8 @@ errorsAsked bins scores errors =
     (ifNot (eqb errors scores) WrongLength (ifNot (inRange bins) OutOfRange Accepted))
 
 -- the posterior error of every score; a refusal leaves NaN in every place
-unfoldable pub posteriorErrors : Estimator → List Float → List Float → List Float → ErrorsRun
+unfoldable pub posteriorErrors : Estimator → List Float → List Float → List Float → ColumnRun
 posteriorErrors e bins scores column =
     answered (errorsAsked (length bins) (length scores) (length column))
-    (errorsRun Accepted (map (posteriorError e bins) scores))
-    (λ r. errorsRun (Refused r) (filled nan column))
+    (columnRun Accepted (map (posteriorError e bins) scores))
+    (λ r. columnRun (Refused r) (filled nan column))

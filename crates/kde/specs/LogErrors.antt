@@ -13,7 +13,7 @@ use Rattle.columns.specs.Refusals.{longest, ifNot, answered}
 use Rattle.columns.specs.declared.Refusal.the-variants.{TooLong, WrongLength}
 use Rattle.columns.specs.declared.Outcome.{Outcome}
 use Rattle.columns.specs.declared.Outcome.the-variants.{Accepted, Refused}
-use Rattle.kde.specs.Estimate.{ErrorsRun, errorsRun}
+use Rattle.kde.specs.Bins.{ColumnRun, columnRun}
 
 -- "an infinity of either sign becomes −324.0", which is −81 · 2^2
 abbrev pub finiteLog : Float → Float
@@ -30,8 +30,8 @@ abbrev pub logErrorsAsked : ℕ → ℕ → Outcome
 logErrorsAsked logs errors = ifNot (leb logs longest) TooLong (ifNot (eqb errors logs) WrongLength Accepted)
 
 -- every logarithm narrowed; a refusal leaves NaN in every place
-unfoldable pub logErrors : List Float → List Float → ErrorsRun
+unfoldable pub logErrors : List Float → List Float → ColumnRun
 logErrors logs column =
     answered (logErrorsAsked (length logs) (length column))
-    (errorsRun Accepted (map logError logs))
-    (λ r. errorsRun (Refused r) (filled nan column))
+    (columnRun Accepted (map logError logs))
+    (λ r. columnRun (Refused r) (filled nan column))

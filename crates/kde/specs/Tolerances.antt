@@ -4,7 +4,6 @@ use mathlib.Core.Bool.{false, cond}
 use Prim.Native.Nat.{ℕ}
 use lib.IntN.{pos}
 use lib.Ieee.{Float, fin, binary32, toUnsigned, sub}
-use Rattle.floats.specs.Signs.{absolute}
 use Rattle.floats.specs.Whole.{ceiled}
 use Rattle.floats.specs.MinMax.{maxNumber}
 use Rattle.columns.specs.Refusals.{numberOf}
@@ -15,10 +14,10 @@ use Rattle.kde.specs.declared.BinCount.{BinCount}
 use Rattle.kde.specs.declared.BinCount.the-variants.{Bins, Refused}
 use Rattle.kde.specs.Bins.{inRange}
 
--- Rust's (hi - lo).max(least).ceil().abs() as usize, in f32
+-- Rust's (hi - lo).max(least).ceil().abs() as usize, in f32; `ceil-max-absolute` says that abs() changes nothing
 unfoldable pub rangeBins : Float → Float → Float → ℕ
 unfolding ceiled maxNumber
-rangeBins lo hi least = toUnsigned 64 (absolute (ceiled binary32 (maxNumber (sub binary32 hi lo) least)))
+rangeBins lo hi least = toUnsigned 64 (ceiled binary32 (maxNumber (sub binary32 hi lo) least))
 
 -- question 3, of a count
 abbrev pub countAnswer : ℕ → BinCount

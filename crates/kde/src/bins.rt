@@ -5,7 +5,7 @@ ghost use lib.Dec.{eqb};
 ghost use lib.ListN.{length};
 ghost use Rattle.folds.specs.Lists.{tabulated, howMany};
 ghost use Rattle.kde.specs.Bins.{leastScore, greatestScore, binScore, binScoresAsked, binScoresRun, binScoresOf};
-ghost use Rattle.kde.specs.Bins.{posteriorBin, raised, binsOf, binsAsked, binsRun, labelBins, slotBins};
+ghost use Rattle.kde.specs.Bins.{posteriorBin, raised, binsOf, binsAsked, columnRun, labelBins, slotBins};
 ghost use Rattle.kde.specs.Inner.BinsReady.{BinsReady};
 use crate::Builder;
 use crate::Built;
@@ -193,7 +193,7 @@ pub fn posterior_bins(
         let decoy = now («decoy_density» .entry) in
         let target = now («target_density» .entry) in
         let before = now (bins .entry) in
-        ⌜ binsRun r (now (bins .exit)) ≡ labelBins builder (now (labels .entry)) decoy target before ⌝ }
+        ⌜ columnRun r (now (bins .exit)) ≡ labelBins builder (now (labels .entry)) decoy target before ⌝ }
 {
     match ask_bins(
         builder.bins,
@@ -234,7 +234,7 @@ pub fn slot_posterior_bins(
         let decoy = now («decoy_density» .entry) in
         let target = now («target_density» .entry) in
         let before = now (bins .entry) in
-        ⌜ binsRun r (now (bins .exit)) ≡ slotBins builder (now («is_decoy» .entry)) decoy target before ⌝ }
+        ⌜ columnRun r (now (bins .exit)) ≡ slotBins builder (now («is_decoy» .entry)) decoy target before ⌝ }
 {
     match ask_bins(
         builder.bins,

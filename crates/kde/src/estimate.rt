@@ -4,7 +4,8 @@ ghost use mathlib.Core.List.{map};
 ghost use Prim.Native.Nat.{_+_, _≤_, _<_, min};
 ghost use lib.ListN.{length};
 ghost use Rattle.kde.specs.Estimate.{stepsUp, posteriorError, posteriorAnswer};
-ghost use Rattle.kde.specs.Estimate.{errorsAsked, errorsRun, posteriorErrors};
+ghost use Rattle.kde.specs.Bins.{columnRun};
+ghost use Rattle.kde.specs.Estimate.{errorsAsked, posteriorErrors};
 use crate::Estimator;
 use crate::Posterior;
 use columns::Outcome;
@@ -94,7 +95,7 @@ pub fn posterior_errors(
     ensures { λ r.
         let scores = now (scores .entry) in
         let before = now (errors .entry) in
-        ⌜ errorsRun r (now (errors .exit)) ≡ posteriorErrors estimator (now (bins .entry)) scores before ⌝ }
+        ⌜ columnRun r (now (errors .exit)) ≡ posteriorErrors estimator (now (bins .entry)) scores before ⌝ }
 {
     match ask_errors(bins.len(), scores.len(), errors.len()) {
         Outcome::Refused(refusal) => {

@@ -2,7 +2,7 @@
 ghost use mathlib.Core.Path.{_≡_};
 ghost use mathlib.Core.List.{map};
 ghost use lib.ListN.{length};
-ghost use Rattle.kde.specs.Estimate.{errorsRun};
+ghost use Rattle.kde.specs.Bins.{columnRun};
 ghost use Rattle.kde.specs.LogErrors.{logError, logErrorsAsked, logErrors};
 use columns::Outcome;
 use columns::Refusal;
@@ -44,7 +44,7 @@ fn ask_log_errors(log10s: usize, errors: usize) -> Outcome
 
 // The same for a column.
 pub fn log_errors(log10s: &[f64], errors: &mut [f32]) -> Outcome
-    ensures { λ r. ⌜ errorsRun r (now (errors .exit)) ≡ logErrors (now (log10s .entry)) (now (errors .entry)) ⌝ }
+    ensures { λ r. ⌜ columnRun r (now (errors .exit)) ≡ logErrors (now (log10s .entry)) (now (errors .entry)) ⌝ }
 {
     match ask_log_errors(log10s.len(), errors.len()) {
         Outcome::Refused(refusal) => {

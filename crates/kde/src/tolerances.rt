@@ -1,9 +1,5 @@
 // The number of bins for mass errors, which stands in the Rust's score_psms.
 ghost use mathlib.Core.Path.{_≡_};
-ghost use mathlib.Core.Bool.{false};
-ghost use lib.Dec.{T};
-ghost use lib.IntN.{pos};
-ghost use lib.Ieee.{fin, lt};
 ghost use Rattle.kde.specs.Tolerances.{rangeBins, countAnswer, binCountAnswer};
 use crate::BinCount;
 use crate::Tolerance;
@@ -11,7 +7,6 @@ use columns::Refusal;
 
 // The number of bins from lo to hi, and at least `least`. The Rust's abs() is left out: the number is above zero.
 fn range_bins(lo: f32, hi: f32, least: f32) -> BinCount
-    requires { ⌜ T (lt (fin false 0 (pos 0)) least) ⌝ }
     ensures { λ r. ⌜ r ≡ countAnswer (rangeBins lo hi least) ⌝ }
 {
     let bins = floats::f32_to_usize(floats::ceil_f32(floats::max_f32(hi - lo, least)));

@@ -6,11 +6,10 @@ use mathlib.Core.List.{List}
 use mathlib.Core.Bool.{Bool, cond, _&&_}
 use lib.Dec.{leb, eqb}
 use lib.IntN.{ℤ, pos}
-use lib.ListN.{length, getD, replicate}
-use lib.Ieee.{Float, nan, binary64, add, sub, mul, div, ofInt}
+use lib.ListN.{length, getD}
+use lib.Ieee.{Float, binary64, add, sub, mul, div, ofInt}
 use Rattle.folds.specs.Walks.{forRange}
 use Rattle.folds.specs.Lists.{tabulated}
-use Rattle.columns.specs.declared.Refusal.{Refusal}
 use Rattle.columns.specs.declared.Refusal.the-variants.{TooLong, WrongLength, OneClass}
 use Rattle.columns.specs.declared.Outcome.{Outcome}
 use Rattle.columns.specs.declared.Outcome.the-variants.{Accepted}
@@ -21,7 +20,7 @@ use Rattle.gauss.specs.Elimination.{Vector, Matrix}
 use Rattle.gauss.specs.declared.Solved.{Solved}
 use Rattle.gauss.specs.declared.Solved.the-variants as solved
 use Rattle.gauss.specs.declared.Solution.{Solution}
-use Rattle.gauss.specs.Solutions.{solution}
+use Rattle.gauss.specs.Solutions.{solution, blank}
 use Rattle.linear_discriminant.specs.declared.Trained.{Trained}
 use Rattle.linear_discriminant.specs.declared.Trained.the-variants.{Coefficients, Refused}
 use Rattle.linear_discriminant.specs.declared.Model.{Model}
@@ -97,10 +96,6 @@ trainedOf (solved.Refused refusal) = Refused refusal
 abbrev pub modelOf : Solution → Model
 modelOf s = record { answer = trainedOf (s .answer); coefficients = s .values }
 
--- "A refusal … Floats returned by value are then NaN"
-abbrev pub blankModel : Refusal → Model
-blankModel refusal = record { answer = Refused refusal; coefficients = replicate 20 nan }
-
 -- "A refusal returns its number", and a fit 0
 abbrev pub trainedNumber : Trained → ℕ
 trainedNumber Coefficients = 0
@@ -122,4 +117,4 @@ unfoldable pub trained : List Float → List ℤ → Model
 trained features labels =
     answered (trainAsked (length features) (length labels) (decoys labels) (targets labels))
     (modelOf (solution (leftSide features labels) (rightSide features labels) 20))
-    blankModel
+    (λ refusal. modelOf (blank refusal))

@@ -3,8 +3,8 @@ ghost use mathlib.Core.Path.{_≡_};
 ghost use Prim.Native.Nat.{_+_, _*_, _≤_};
 ghost use lib.ListN.{length};
 ghost use Rattle.columns.specs.Refusals.{longest};
-ghost use Rattle.gauss.specs.Solutions.{solution};
-ghost use Rattle.linear_discriminant.specs.Fit.{classCount, leftSide, rightSide, modelOf, blankModel};
+ghost use Rattle.gauss.specs.Solutions.{solution, blank};
+ghost use Rattle.linear_discriminant.specs.Fit.{classCount, leftSide, rightSide, modelOf};
 ghost use Rattle.linear_discriminant.specs.Fit.{trainAsked, trained};
 ghost use Rattle.linear_discriminant.specs.Inner.Passes.{addedRow, summedRows, classSums, meanOf, rowDifference};
 use crate::Model;
@@ -47,7 +47,7 @@ fn ask(features: usize, labels: usize, decoys: usize, targets: usize) -> Outcome
 
 // A refusal, with twenty NaN.
 fn blank_model(refusal: Refusal) -> Model
-    ensures { λ r. ⌜ r ≡ blankModel refusal ⌝ }
+    ensures { λ r. ⌜ r ≡ modelOf (blank refusal) ⌝ }
 {
     let coefficients = [0.0 / 0.0; 20];
     Model {

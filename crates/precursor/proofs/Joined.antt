@@ -9,7 +9,7 @@ use lib.Ieee.{Float, nan}
 use Rattle.folds.specs.Lists.{filled}
 use Rattle.folds.specs.Inner.All.{All}
 use Rattle.folds.proofs.Writing.{same-blank}
-use Rattle.columns.specs.Refusals.{longest}
+use Rattle.columns.specs.Refusals.{longest, rankedRun}
 use Rattle.columns.specs.declared.Counted.the-variants.{Passing}
 use Rattle.columns.specs.declared.Outcome.the-variants.{Accepted}
 use Rattle.floats.specs.Ratio.{oneIn}
@@ -22,7 +22,7 @@ use Rattle.ranking.specs.Inner.Layout.{placeOf, labelOf}
 use Rattle.ranking.specs.Inner.Rows.{rowKeys, scattered}
 use Rattle.ranking.proofs.Places.{length-as-ranked, scattered-is}
 use Rattle.ranking.proofs.Rows.{length-row-keys, keys-in-bounds, keys-places, keys-decoys}
-use Rattle.precursor.specs.Precursors.{precursorQ, precursorRun, orderRun}
+use Rattle.precursor.specs.Precursors.{precursorQ, orderRun}
 use Rattle.precursor.proofs.Questions.{LengthsMatch}
 
 -- no label matters but for being a decoy's
@@ -52,15 +52,15 @@ module _ (labels : List ℤ) (scores : List Float) (keys₀ spare₀ : List ℕ)
   pub picked : (q₀ : List Float) → length q₀ ≡ result → length labels ≡ length scores → (passing : ℕ) (q : List Float) (spare : List ℕ)
       → passing ≡ targetsAtMost (oneIn 20) (map labelOf keys) (qValues (map labelOf keys)) → q ≡ scattered (map placeOf keys) (qValues (map labelOf keys)) q₀
       → length spare ≡ length spare₀
-      → precursorRun (Passing passing) (filled 0 keys) (filled 0 spare) q
-      ≡ precursorRun (Passing (targetsAtMost (oneIn 20) (asRanked labels scores) (qValues (asRanked labels scores)))) (filled 0 keys₀) (filled 0 spare₀) (precursorQ labels scores)
+      → rankedRun (Passing passing) (filled 0 keys) (filled 0 spare) q
+      ≡ rankedRun (Passing (targetsAtMost (oneIn 20) (asRanked labels scores) (qValues (asRanked labels scores)))) (filled 0 keys₀) (filled 0 spare₀) (precursorQ labels scores)
   unfolding precursorQ
   picked q₀ l m passing q spare c d s =
       let rows = asRanked labels scores in
       let decoys : map isDecoy (map labelOf keys) ≡ map isDecoy rows = rw e (keys-decoys labels scores (f .short)) in
       let places : map placeOf keys ≡ rankedOrder scores = rw e (keys-places labels scores (f .short)) in
       rw (c, d, same-q (map labelOf keys) rows decoys, same-count (oneIn 20) (map labelOf keys) rows (qValues rows) decoys, places, cleared, same-blank 0 spare spare₀ s, m)
-      (ap (precursorRun (Passing (targetsAtMost (oneIn 20) rows (qValues rows))) (filled 0 keys₀) (filled 0 spare₀))
+      (ap (rankedRun (Passing (targetsAtMost (oneIn 20) rows (qValues rows))) (filled 0 keys₀) (filled 0 spare₀))
       (scattered-is nan scores (qValues rows) q₀ (q-length rows ∙ length-as-ranked labels scores) (l ∙ f .result-match)))
 
   -- what `precursor_order` leaves

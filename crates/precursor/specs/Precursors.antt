@@ -8,8 +8,7 @@ use lib.IntN.{ℤ}
 use lib.ListN.{length, getD}
 use lib.Ieee.{Float, nan}
 use Rattle.folds.specs.Lists.{filled, tabulated}
-use Rattle.columns.specs.Refusals.{longest, ifNot, answered}
-use Rattle.columns.specs.declared.Counted.{Counted}
+use Rattle.columns.specs.Refusals.{longest, ifNot, answered, RankedRun, rankedRun}
 use Rattle.columns.specs.declared.Counted.the-variants as counted
 use Rattle.columns.specs.declared.Refusal.the-variants.{TooLong, WrongLength}
 use Rattle.columns.specs.declared.Outcome.{Outcome}
@@ -26,16 +25,6 @@ precursorQ labels scores =
     let q = qValues (asRanked labels scores) in
     tabulated (λ place. getD q (rankOf (rankedRows scores) place) nan) 0 (length labels)
 
--- what the call answers, and its columns afterwards
-pub record PrecursorRun : Type 0 where
-  pub answer : Counted
-  pub keys : List ℕ
-  pub spare : List ℕ
-  pub q : List Float
-
-abbrev pub precursorRun : Counted → List ℕ → List ℕ → List Float → PrecursorRun
-precursorRun answer keys spare q = record { answer = answer; keys = keys; spare = spare; q = q }
-
 -- questions 1 and 2: short lists, and one entry per precursor in each column
 abbrev pub precursorAsked : ℕ → ℕ → ℕ → ℕ → ℕ → Outcome
 precursorAsked labels scores keys spare q =
@@ -43,13 +32,13 @@ precursorAsked labels scores keys spare q =
     (ifNot (eqb scores labels && (eqb keys labels && (eqb spare labels && eqb q labels))) WrongLength Accepted)
 
 -- the q-values, and how many targets have one of at most 0.05; a refusal leaves NaN in every place
-unfoldable pub pickedPrecursor : List ℤ → List Float → List ℕ → List ℕ → List Float → PrecursorRun
+unfoldable pub pickedPrecursor : List ℤ → List Float → List ℕ → List ℕ → List Float → RankedRun
 pickedPrecursor labels scores keys spare q =
     let rows = asRanked labels scores in
     let passing = targetsAtMost (oneIn 20) rows (qValues rows) in
     answered (precursorAsked (length labels) (length scores) (length keys) (length spare) (length q))
-    (precursorRun (counted.Passing passing) (filled 0 keys) (filled 0 spare) (precursorQ labels scores))
-    (λ r. precursorRun (counted.Refused r) (filled 0 keys) (filled 0 spare) (filled nan q))
+    (rankedRun (counted.Passing passing) (filled 0 keys) (filled 0 spare) (precursorQ labels scores))
+    (λ r. rankedRun (counted.Refused r) (filled 0 keys) (filled 0 spare) (filled nan q))
 
 -- ---- the order. Module 7: "a line of a precursor list counts its rows as ranked".
 

@@ -1,6 +1,7 @@
 // picked_precursor of sage's fdr.rs (document 01, module 6), and the order in which it ranks its rows.
 ghost use mathlib.Core.Path.{_≡_};
-ghost use Rattle.precursor.specs.Precursors.{precursorAsked, precursorRun, pickedPrecursor};
+ghost use Rattle.columns.specs.Refusals.{rankedRun};
+ghost use Rattle.precursor.specs.Precursors.{precursorAsked, pickedPrecursor};
 ghost use Rattle.precursor.specs.Precursors.{orderAsked, orderRun, precursorOrder};
 use columns::Counted;
 use columns::Outcome;
@@ -34,7 +35,7 @@ pub fn picked_precursor(
     q: &mut [f32],
 ) -> Counted
     ensures { λ r.
-        let after = precursorRun r (now (keys .exit)) (now (spare .exit)) (now (q .exit)) in
+        let after = rankedRun r (now (keys .exit)) (now (spare .exit)) (now (q .exit)) in
         let run = pickedPrecursor (now (labels .entry)) (now (scores .entry)) in
         ⌜ after ≡ run (now (keys .entry)) (now (spare .entry)) (now (q .entry)) ⌝ }
 {

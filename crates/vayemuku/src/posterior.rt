@@ -50,7 +50,7 @@ pub extern "C" fn vayemuku_posterior_bins(
         let decoy = now («decoy_density» .entry) in
         let target = now («target_density» .entry) in
         let run = labelBins (builderOf monotonic count) (now (labels .entry)) decoy target (now (bins .entry)) in
-        ⌜ r and now (bins .exit) ≡ outcomeNumber (run .answer) and run .bins ⌝ }
+        ⌜ r and now (bins .exit) ≡ outcomeNumber (run .answer) and run .column ⌝ }
 {
     let builder = Builder {
         monotonic: monotonic != 0,
@@ -79,7 +79,7 @@ pub extern "C" fn vayemuku_slot_posterior_bins(
         let decoy = now («decoy_density» .entry) in
         let target = now («target_density» .entry) in
         let run = slotBins (builderOf monotonic count) (now («is_decoy» .entry)) decoy target (now (bins .entry)) in
-        ⌜ r and now (bins .exit) ≡ outcomeNumber (run .answer) and run .bins ⌝ }
+        ⌜ r and now (bins .exit) ≡ outcomeNumber (run .answer) and run .column ⌝ }
 {
     let builder = Builder {
         monotonic: monotonic != 0,
@@ -128,7 +128,7 @@ pub extern "C" fn vayemuku_posterior_errors(
     ensures { λ r.
         let built = estimator «min_score» «score_step» in
         let run = posteriorErrors built (now (bins .entry)) (now (scores .entry)) (now (errors .entry)) in
-        ⌜ r and now (errors .exit) ≡ outcomeNumber (run .answer) and run .errors ⌝ }
+        ⌜ r and now (errors .exit) ≡ outcomeNumber (run .answer) and run .column ⌝ }
 {
     let estimator = Estimator {
         min_score,
@@ -175,7 +175,7 @@ pub extern "C" fn vayemuku_log_error(log10: f64) -> f32
 pub extern "C" fn vayemuku_log_errors(log10s: &[f64], errors: &mut [f32]) -> u32
     ensures { λ r.
         let run = logErrors (now (log10s .entry)) (now (errors .entry)) in
-        ⌜ r and now (errors .exit) ≡ outcomeNumber (run .answer) and run .errors ⌝ }
+        ⌜ r and now (errors .exit) ≡ outcomeNumber (run .answer) and run .column ⌝ }
 {
     columns::outcome_number(kde::log_errors(log10s, errors))
 }

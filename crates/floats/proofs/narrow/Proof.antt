@@ -10,11 +10,11 @@ use lib.Ieee.{Float, binary32, binary64, neg, div, ofBits, toBits, fits, isNan}
 use lib.Ieee.Fits.{and-i, neg-fits, cond-fits, fits-widens}
 use lib.Ieee.Bits.{nanBits-is, ofBits-toBits}
 use Rattle.floats.specs.Convert.{converted}
-use Rattle.floats.specs.Signs.{negative, absolute}
+use Rattle.floats.specs.Signs.{negative}
 use lib.Ieee.Compare.{differs-from-itself}
 use denote.Floats.{passes}
 use Rattle.floats.proofs.MinMax.{not-nan}
-use Rattle.floats.proofs.Signs.{absolute-number, absolute-plus, converted-sign}
+use Rattle.floats.proofs.Signs.{absolute, absolute-number, absolute-plus, converted-sign}
 use Rattle.floats.proofs.Fields.{sign-off, sign-part, sign-on, magnitude-bits}
 use Rattle.floats.proofs.Narrowed.{resigned, converted-fits, converted-not-nan}
 use Rattle.floats.proofs.narrow.Statement.{statement}

@@ -1,10 +1,8 @@
--- `kde::tolerances::range_bins` meets its contract: the calls' own contracts, and the law that abs() changes nothing
--- here.
+-- `kde::tolerances::range_bins` meets its contract by those of its calls.
 use mathlib.Core.Path.{_≡_, sym, ap, _∙_}
 use lib.Ieee.{binary32, toUnsigned, sub}
 use Rattle.floats.specs.Whole.{ceiled}
 use Rattle.kde.specs.Tolerances.{rangeBins}
-use Rattle.floats.proofs.Signs.{ceil-max-absolute}
 use borrow.Author.Needs.{needs}
 use Rattle.kde.proofs.tolerances.range_bins.Statement.{statement}
 use Rattle.kde.proofs.tolerances.range_bins.Tie as tie
@@ -15,7 +13,7 @@ count : (c : tie.After-f32-to-usize)
 unfolding rangeBins
 count c =
     c .f32-to-usize .ensures
-    ∙ ap (toUnsigned 64) (c .before .ceil-f32 .ensures ∙ ap (ceiled binary32) (c .before .before .max-f32 .ensures) ∙ sym (ceil-max-absolute binary32 (sub binary32 (c .before .before .before .args .hi) (c .before .before .before .args .lo)) (c .before .before .before .args .least) (c .before .before .before .pre)))
+    ∙ ap (toUnsigned 64) (c .before .ceil-f32 .ensures ∙ ap (ceiled binary32) (c .before .before .max-f32 .ensures))
 
 returns : tie.Need-returns
 returns c = rw (← (count (c .before .before)), ← (c .before .in-range .ensures), c .if1 .taken)

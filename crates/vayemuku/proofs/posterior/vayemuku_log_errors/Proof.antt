@@ -2,14 +2,14 @@
 use mathlib.Core.Path.{ap}
 use borrow.Author.Needs.{needs}
 use Rattle.columns.specs.Refusals.{outcomeNumber, _and_}
-use Rattle.kde.specs.Estimate.{ErrorsRun}
+use Rattle.kde.specs.Bins.{ColumnRun}
 use Rattle.vayemuku.proofs.posterior.vayemuku_log_errors.Statement.{statement}
 use Rattle.vayemuku.proofs.posterior.vayemuku_log_errors.Tie as tie
 
 returns : tie.Need-returns
 returns c =
     rw (c .outcome-number .ensures)
-    (ap (λ (run : ErrorsRun). outcomeNumber (run .answer) and run .errors) (c .before .before .before .log-errors .ensures))
+    (ap (λ (run : ColumnRun). outcomeNumber (run .answer) and run .column) (c .before .before .before .log-errors .ensures))
 
 pub vayemuku-log-errors-spec : {M : Type 1} → statement M
 vayemuku-log-errors-spec =

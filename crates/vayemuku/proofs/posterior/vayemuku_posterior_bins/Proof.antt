@@ -2,14 +2,14 @@
 use mathlib.Core.Path.{ap}
 use borrow.Author.Needs.{needs}
 use Rattle.columns.specs.Refusals.{outcomeNumber, _and_}
-use Rattle.kde.specs.Bins.{BinsRun}
+use Rattle.kde.specs.Bins.{ColumnRun}
 use Rattle.vayemuku.proofs.posterior.vayemuku_posterior_bins.Statement.{statement}
 use Rattle.vayemuku.proofs.posterior.vayemuku_posterior_bins.Tie as tie
 
 returns : tie.Need-returns
 returns c =
     rw (c .outcome-number .ensures)
-    (ap (λ (run : BinsRun). outcomeNumber (run .answer) and run .bins) (c .before .before .before .posterior-bins .ensures))
+    (ap (λ (run : ColumnRun). outcomeNumber (run .answer) and run .column) (c .before .before .before .posterior-bins .ensures))
 
 pub vayemuku-posterior-bins-spec : {M : Type 1} → statement M
 vayemuku-posterior-bins-spec =

@@ -1,15 +1,14 @@
 -- `vayemuku_picked_precursor` meets its contract: the number, the count and the columns of what the call answers.
 use mathlib.Core.Path.{ap}
 use borrow.Author.Needs.{needs}
-use Rattle.columns.specs.Refusals.{countedNumber, countedCount, _and_}
-use Rattle.precursor.specs.Precursors.{PrecursorRun}
+use Rattle.columns.specs.Refusals.{countedNumber, countedCount, _and_, RankedRun}
 use Rattle.vayemuku.proofs.q_values.vayemuku_picked_precursor.Statement.{statement}
 use Rattle.vayemuku.proofs.q_values.vayemuku_picked_precursor.Tie as tie
 
 returns : tie.Need-returns
 returns c =
     rw (c .counted-number .ensures, c .before .counted-count .ensures)
-    (ap (λ (run : PrecursorRun). countedNumber (run .answer) and run .keys and run .spare and run .q and countedCount (run .answer))
+    (ap (λ (run : RankedRun). countedNumber (run .answer) and run .keys and run .spare and run .q and countedCount (run .answer))
     (c .before .before .before .before .before .before .before .before .picked-precursor .ensures))
 
 pub vayemuku-picked-precursor-spec : {M : Type 1} → statement M
