@@ -79,21 +79,21 @@ uint32_t vayemuku_score_rows(const double coefficients[20], const double *featur
 #define VAYEMUKU_BINS 1000
 
 /* Step one: *min_score and *score_step get the least score and the step, and bin_scores the score of every bin, at
- * which the host takes its two densities. Refusals: 1 more than 16,777,215 scores, 2 bin_scores not `bins` long, 3 not
- * 1 to 65,536 bins; then both numbers are NaN. */
-uint32_t vayemuku_bin_scores(size_t bins, const double *scores, size_t scores_len, double *bin_scores,
+ * which the host takes its two densities. Refusals: 1 more than 16,777,215 scores, 2 bin_scores not `bin_count` long,
+ * 3 not 1 to 65,536 bins; then both numbers are NaN. */
+uint32_t vayemuku_bin_scores(size_t bin_count, const double *scores, size_t scores_len, double *bin_scores,
                              size_t bin_scores_len, double *min_score, double *score_step);
 
 /* Step two: the bins of the estimator, from the host's densities; any `monotonic` but 0 asks for bins that never rise
- * with the score. Refusals: 1, 2 a column not `count` long, 3. */
-uint32_t vayemuku_posterior_bins(uint32_t monotonic, size_t count, const int32_t *labels, size_t labels_len,
+ * with the score. Refusals: 1, 2 a column not `bin_count` long, 3. */
+uint32_t vayemuku_posterior_bins(uint32_t monotonic, size_t bin_count, const int32_t *labels, size_t labels_len,
                                  const double *decoy_density, size_t decoy_density_len, const double *target_density,
                                  size_t target_density_len, double *bins, size_t bins_len);
 
 /* Step two over a competition's slots: is_decoy is 1 for a decoy and 0 for a target; a slot with any other number takes
  * no part. */
-uint32_t vayemuku_slot_posterior_bins(uint32_t monotonic, size_t count, const uint32_t *is_decoy, size_t is_decoy_len,
-                                      const double *decoy_density, size_t decoy_density_len,
+uint32_t vayemuku_slot_posterior_bins(uint32_t monotonic, size_t bin_count, const uint32_t *is_decoy,
+                                      size_t is_decoy_len, const double *decoy_density, size_t decoy_density_len,
                                       const double *target_density, size_t target_density_len, double *bins,
                                       size_t bins_len);
 

@@ -1,11 +1,11 @@
 //! Calls of the port that return more than a column, over vayemuku-sys: their answers by value, with the number first.
 //!
-//! Before a call, each answer holds a number that no call should leave there. Columns are the caller's, so that it sees
-//! them after a refusal too.
+//! What they add: before a call each answer is a number that no call should leave there, so that one that is not
+//! written is seen; and an answer can be read after a refusal, where host's calls give none.
 
 use host::{Rate, FEATURES};
 use sage_core::ml::kde::Parts;
-use vayemuku_sys::{self as sys, Checked, EstimatorRef, Ranking, TableRef};
+use vayemuku_sys::{self as sys, EstimatorRef, LineNumbers, RankingColumns, TableRef};
 
 /// The coefficients of a model, a feature row, or a row of a system.
 pub type Vector = [f64; FEATURES];
@@ -40,9 +40,9 @@ pub fn train(features: &[f64], labels: &[i32]) -> (u32, Vector) {
 }
 
 /// The least score and the step of scores, with the scores of the bins in a column.
-pub fn bin_scores(bins: usize, scores: &[f64], bin_scores: &mut [f64]) -> Built {
+pub fn bin_scores(bin_count: usize, scores: &[f64], bin_scores: &mut [f64]) -> Built {
     let [mut min_score, mut score_step] = [UNWRITTEN_FLOAT; 2];
-    let number = sys::bin_scores(bins, scores, bin_scores, &mut min_score, &mut score_step).number;
+    let number = sys::bin_scores(bin_count, scores, bin_scores, &mut min_score, &mut score_step).number;
     Built { number, min_score, score_step }
 }
 
@@ -54,8 +54,8 @@ pub fn posterior_error(estimator: EstimatorRef, score: f64) -> (u32, f64) {
 
 /// The bin count of a tolerance.
 pub fn bin_count(unit: u32, lo: f32, hi: f32) -> (u32, usize) {
-    let mut bins = UNWRITTEN;
-    (sys::bin_count(unit, lo, hi, &mut bins).number, bins)
+    let mut bin_count = UNWRITTEN;
+    (sys::bin_count(unit, lo, hi, &mut bin_count).number, bin_count)
 }
 
 /// The count of spectrum q-values.
@@ -65,7 +65,7 @@ pub fn spectrum_q_value(labels: &[i32], q: &mut [f32]) -> (u32, usize) {
 }
 
 /// The count of precursors' q-values.
-pub fn picked_precursor(labels: &[i32], scores: &[f64], ranking: Ranking) -> (u32, usize) {
+pub fn picked_precursor(labels: &[i32], scores: &[f64], ranking: RankingColumns) -> (u32, usize) {
     let mut count = UNWRITTEN;
     (sys::picked_precursor(labels, scores, ranking, &mut count).number, count)
 }
@@ -76,19 +76,19 @@ pub fn assign_q_value(
     estimator: EstimatorRef,
     table: TableRef,
     (slots, labels): (&[u32], &[i32]),
-    ranking: Ranking,
+    ranking: RankingColumns,
 ) -> (u32, usize) {
     let mut count = UNWRITTEN;
     (sys::assign_q_value(two_names, estimator, table, slots, labels, ranking, &mut count).number, count)
 }
 
-/// The check of a line.
-pub fn check_line(labels: &[i32], line: usize, rate: Rate) -> (u32, Checked) {
+/// The numbers of a line's check.
+pub fn check_line(labels: &[i32], line: usize, rate: Rate) -> (u32, LineNumbers) {
     let [row, decoys_plus_one, targets] = [UNWRITTEN; 3];
-    let mut checked = Checked { right: UNWRITTEN as u32, row, decoys_plus_one, targets };
+    let mut numbers = LineNumbers { right: UNWRITTEN as u32, row, decoys_plus_one, targets };
     let check = match rate {
         Rate::OneIn100 => sys::check_line_100,
         Rate::OneIn20 => sys::check_line_20,
     };
-    (check(labels, line, &mut checked).number, checked)
+    (check(labels, line, &mut numbers).number, numbers)
 }

@@ -3,15 +3,15 @@
 use crate::report::Answer;
 
 /// How many random cases each function gets, and whether f32 functions get every pattern too.
-pub struct Plan {
+pub struct CasePlan {
     pub cases: u64,
     pub exhaustive: bool,
 }
 
-impl Plan {
+impl CasePlan {
     /// Reads `--cases N` and `--exhaustive`.
-    pub fn from_words(words: &[&str]) -> Option<Plan> {
-        let mut plan = Plan { cases: 50_000_000, exhaustive: false };
+    pub fn from_words(words: &[&str]) -> Option<CasePlan> {
+        let mut plan = CasePlan { cases: 50_000_000, exhaustive: false };
         let mut words = words.iter();
         while let Some(&word) = words.next() {
             match word {
@@ -203,7 +203,7 @@ pub fn partner<F: Float>(random: &mut Random, first: F) -> F {
 }
 
 /// Calls `check` with every boundary, then with the planned number of random floats, then with every f32 where planned.
-pub fn each_single<F: Float>(plan: &Plan, mut check: impl FnMut(F)) {
+pub fn each_single<F: Float>(plan: &CasePlan, mut check: impl FnMut(F)) {
     single_boundaries().into_iter().for_each(&mut check);
     let mut random = Random::new(1);
     for _ in 0..plan.cases {
@@ -215,7 +215,7 @@ pub fn each_single<F: Float>(plan: &Plan, mut check: impl FnMut(F)) {
 }
 
 /// Calls `check` with all pairs of a list of boundaries, then with the planned number of random pairs.
-pub fn each_pair<F: Float>(plan: &Plan, mut check: impl FnMut(F, F)) {
+pub fn each_pair<F: Float>(plan: &CasePlan, mut check: impl FnMut(F, F)) {
     let list = boundaries::<F>(if F::DIGITS == 23 { 1 } else { 8 });
     for &a in &list {
         for &b in &list {

@@ -17,10 +17,10 @@ use spectrum::Spectrum;
 /// Every pattern of decoys and targets is tried up to this length.
 const EVERY: usize = 14;
 
-/// Targets before every pattern of up to `BEHIND` labels: short lists with rows at and just beside one in 20 or 100.
-/// No row qualifies in a list of fewer than 20 targets.
+/// Targets that every pattern of up to `TAIL` labels follows: short lists with rows at and just beside one in 20 or
+/// 100. No row qualifies in a list of fewer than 20 targets.
 const HEADS: [usize; 8] = [19, 20, 37, 40, 98, 100, 197, 200];
-const BEHIND: usize = 8;
+const TAIL: usize = 8;
 
 /// The bare ranking is tried on every length under this.
 const LENGTHS: usize = 1_000;
@@ -40,7 +40,7 @@ fn spectrum_and_lines(lists: u64) -> bool {
         lines.all(labels, &counted);
     };
     each_pattern(0, EVERY, &mut short);
-    HEADS.iter().for_each(|&head| each_pattern(head, BEHIND, &mut short));
+    HEADS.iter().for_each(|&head| each_pattern(head, TAIL, &mut short));
     let mut random = Random::new(4);
     let mut labels = Vec::new();
     for _ in 0..lists {

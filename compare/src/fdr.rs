@@ -29,7 +29,7 @@ struct Calls {
     whole_runs: Tally,
 }
 
-/// Compares every call on `tables` random tables of either sort, and says whether nothing differed.
+/// Compares every call on `tables` random tables of each kind, and says whether nothing differed.
 pub fn run(tables: u64) -> bool {
     // Called from another thread, each kernel sum of sage's would wait for rayon's.
     on_rayons_thread(|| {

@@ -1,12 +1,12 @@
 //! Module 1, float helpers, beside Rust's own `as`, floor, ceil, min, max and total_cmp.
 
-use crate::cases::{each_pair, each_single, Float, Plan};
+use crate::cases::{each_pair, each_single, CasePlan, Float};
 use crate::report::{Answer, Tally};
 use std::cmp::Ordering;
 use vayemuku_sys::*;
 
 /// Compares every function, and says whether nothing differed.
-pub fn run(plan: &Plan) -> bool {
+pub fn run(plan: &CasePlan) -> bool {
     let lines = [
         one("narrow", plan, vayemuku_narrow, |x| x as f32),
         one("widen", plan, vayemuku_widen, |x| x as f64),
@@ -66,7 +66,7 @@ fn describe<F: Float, R: Answer>(a: F, b: F, port: R, rust: R) -> String {
 /// A function of one float.
 fn one<F: Float, R: Answer>(
     name: &'static str,
-    plan: &Plan,
+    plan: &CasePlan,
     port: extern "C" fn(F) -> R,
     rust: impl Fn(F) -> R,
 ) -> bool {
@@ -81,7 +81,7 @@ fn one<F: Float, R: Answer>(
 /// min or max: the port keeps to `rule` exactly; Rust's own gives the same, up to the sign where two zeros meet.
 fn extreme<F: Float>(
     name: &'static str,
-    plan: &Plan,
+    plan: &CasePlan,
     port: extern "C" fn(F, F) -> F,
     rule: impl Fn(F, F) -> F,
     rust: impl Fn(F, F) -> F,
@@ -101,7 +101,7 @@ fn extreme<F: Float>(
 /// The total order: -1, 0 or 1.
 fn total<F: Float>(
     name: &'static str,
-    plan: &Plan,
+    plan: &CasePlan,
     port: extern "C" fn(F, F) -> i32,
     rust: impl Fn(F, F) -> Ordering,
 ) -> bool {
@@ -116,7 +116,7 @@ fn total<F: Float>(
 /// Order keys: two keys compare as their floats do.
 fn keys<F: Float, K: Answer + Ord>(
     name: &'static str,
-    plan: &Plan,
+    plan: &CasePlan,
     port: extern "C" fn(F) -> K,
     rust: impl Fn(F, F) -> Ordering,
 ) -> bool {

@@ -12,7 +12,7 @@ pub mod reading;
 mod refusals;
 mod tolerances;
 
-use crate::cases::{Plan, Random};
+use crate::cases::{CasePlan, Random};
 use crate::report::{expect_column, Answer, Tally};
 use sage_core::ml::kde::on_rayons_thread;
 
@@ -36,7 +36,7 @@ struct Calls {
 pub fn run(builds: u64) -> bool {
     // Called from another thread, each kernel sum of sage's would wait for rayon's.
     on_rayons_thread(|| {
-        let plan = Plan { cases: builds * PER_BUILD, exhaustive: false };
+        let plan = CasePlan { cases: builds * PER_BUILD, exhaustive: false };
         let mut calls = Calls::new();
         calls.builds(builds);
         calls.mixing(builds);

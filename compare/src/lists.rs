@@ -138,7 +138,7 @@ fn at_threshold(random: &mut Random, labels: &mut Vec<i32>) {
 }
 
 /// Falling scores that differ as numbers after narrowing, none of them NaN: adjacent f32s, close ones, or ones from the
-/// whole range, and at times both infinities.
+/// whole range, and sometimes both infinities.
 pub fn distinct_scores(random: &mut Random, length: usize) -> Vec<f64> {
     let room = 2 * INFINITE as u64 + 1;
     let widest = room / length.max(1) as u64;

@@ -41,17 +41,17 @@ const LISTS: u64 = 200_000;
 /// How many random builds and estimators `kde` compares by default.
 const BUILDS: u64 = 30_000;
 
-/// How many random tables of either sort `fdr` compares by default.
+/// How many random tables of each kind `fdr` compares by default.
 const TABLES: u64 = 50_000;
 
 /// Runs the command line; None where it is not valid.
 fn run(words: &[&str]) -> Option<bool> {
     match words {
         ["smoke"] => Some(smoke::run()),
-        ["floats", options @ ..] => Some(floats::run(&cases::Plan::from_words(options)?)),
+        ["floats", options @ ..] => Some(floats::run(&cases::CasePlan::from_words(options)?)),
         ["counting"] => Some(counting::run(LISTS)),
         ["counting", "--lists", lists] => Some(counting::run(lists.parse().ok()?)),
-        ["fit", options @ ..] => Some(fit::run(&fit::Plan::from_words(options)?)),
+        ["fit", options @ ..] => Some(fit::run(&fit::FitPlan::from_words(options)?)),
         ["kde"] => Some(kde::run(BUILDS)),
         ["kde", "--builds", builds] => Some(kde::run(builds.parse().ok()?)),
         ["fdr"] => Some(fdr::run(TABLES)),

@@ -1,5 +1,5 @@
 //! Answers of sage's unchanged Rust, written to files that the programs replay_* read, and some of them with a wrong
-//! bit each. The same bytes come each time.
+//! bit each. Each run writes the same bytes.
 
 mod counting;
 mod fdr;

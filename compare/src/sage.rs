@@ -19,11 +19,11 @@ type Key = (PrecursorId, bool);
 /// The argument of picked_precursor.
 pub type Peaks = FnvHashMap<Key, (Peak, Vec<f64>)>;
 
-/// Rows that are used for one list after the other.
+/// sage's rows, which are used for one list after the other.
 #[derive(Default)]
-pub struct Rows(Vec<Feature>);
+pub struct SageRows(Vec<Feature>);
 
-impl Rows {
+impl SageRows {
     /// Rows with these labels.
     pub fn labelled(&mut self, labels: &[i32]) -> &mut [Feature] {
         if self.0.len() < labels.len() {

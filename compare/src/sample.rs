@@ -54,8 +54,8 @@ pub fn run(table: &str, list: &str, refused: &str) -> bool {
 /// host's rescore of rows.
 fn rescored(rows: &[SampleRow], tolerance: Tolerance, densities: &mut dyn Densities) -> Result<Rescored, Refused> {
     let psms: Vec<_> = rows.iter().map(SampleRow::psm).collect();
-    let keys: Vec<_> = rows.iter().map(SampleRow::key).collect();
-    rescore(&psms, &keys, Names::Two, tolerance, densities)
+    let protein_names: Vec<_> = rows.iter().map(SampleRow::protein_name).collect();
+    rescore(&psms, &protein_names, Names::Two, tolerance, densities)
 }
 
 /// host's rows.

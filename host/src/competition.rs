@@ -1,10 +1,10 @@
 //! Module 5: competitions of targets with their decoys.
 
 use crate::{Estimator, QValues, Refused, LONGEST};
-use vayemuku_sys::{self as sys, Batch, Ranking, TableColumns, TableMut, TableRef};
+use vayemuku_sys::{self as sys, Batch, RankingColumns, TableColumns, TableMut, TableRef};
 
 /// The slot of a row that takes no part: a peptide that several proteins share.
-pub const NO_PART: u32 = u32::MAX;
+pub const NO_PART: u32 = sys::VAYEMUKU_NO_PART;
 
 /// How the two sides of a slot are named.
 #[derive(Clone, Copy, Debug, PartialEq, Eq)]
@@ -31,7 +31,7 @@ pub struct Winners {
 impl CompetitionTable {
     /// A table with this number of slots, of which no side was seen. Refuses with [`TooLong`](crate::Refusal::TooLong).
     pub fn fresh(slots: usize) -> Result<CompetitionTable, Refused> {
-        // any number of slots above the most is refused alike
+        // every number of slots above the most is refused in the same way
         let slots = slots.min(LONGEST + 1);
         let mut table = CompetitionTable(TableColumns {
             forward: vec![0.0; slots],
@@ -94,7 +94,7 @@ impl CompetitionTable {
         let mut q = vec![f32::NAN; slots.len()];
         let mut count = 0;
         let two_names = (names == Names::Two).into();
-        let ranking = Ranking { keys: &mut keys, spare: &mut spare, q: &mut q };
+        let ranking = RankingColumns { keys: &mut keys, spare: &mut spare, q: &mut q };
         let table = self.columns();
         let returned = sys::assign_q_value(two_names, estimator.borrowed(), table, slots, labels, ranking, &mut count);
         Refused::check(returned)?;

@@ -2,7 +2,7 @@
 //! and the ranked order.
 
 use crate::Refused;
-use vayemuku_sys::{self as sys, Ranking};
+use vayemuku_sys::{self as sys, RankingColumns};
 
 /// The longest list that a call takes.
 pub const LONGEST: usize = 16_777_215;
@@ -43,7 +43,7 @@ pub fn picked_precursor(labels: &[i32], scores: &[f64]) -> Result<QValues, Refus
     let mut spare = vec![0; labels.len()];
     let mut q = vec![f32::NAN; labels.len()];
     let mut count = 0;
-    let ranking = Ranking { keys: &mut keys, spare: &mut spare, q: &mut q };
+    let ranking = RankingColumns { keys: &mut keys, spare: &mut spare, q: &mut q };
     Refused::check(sys::picked_precursor(labels, scores, ranking, &mut count))?;
     Ok(QValues { q, count })
 }
@@ -53,13 +53,13 @@ pub fn picked_precursor(labels: &[i32], scores: &[f64]) -> Result<QValues, Refus
 /// Refuses with [`TooLong`](crate::Refusal::TooLong).
 ///
 /// ```
-/// let order = vayemuku::order(&[1.0, 3.0, 2.0]).unwrap();
+/// let order = vayemuku::precursor_order(&[1.0, 3.0, 2.0]).unwrap();
 /// assert_eq!(order, [1, 2, 0]);
 /// // labels as ranked
 /// let labels: Vec<i32> = order.iter().map(|&row| [-1, 1, 7][row]).collect();
 /// assert_eq!(labels, [1, 7, -1]);
 /// ```
-pub fn order(scores: &[f64]) -> Result<Vec<usize>, Refused> {
+pub fn precursor_order(scores: &[f64]) -> Result<Vec<usize>, Refused> {
     let mut keys = vec![0; scores.len()];
     let mut spare = vec![0; scores.len()];
     let mut order = vec![u32::MAX; scores.len()];
@@ -80,11 +80,11 @@ pub fn rank_keys(mut keys: Vec<u64>) -> Result<Vec<u64>, Refused> {
 
 #[cfg(test)]
 mod tests {
-    use super::order;
+    use super::precursor_order;
 
     #[test]
     fn equal_scores_keep_their_order() {
-        assert_eq!(order(&[1.0, 2.0, 1.0, 2.0]), Ok(vec![1, 3, 0, 2]));
-        assert_eq!(order(&[]), Ok(vec![]));
+        assert_eq!(precursor_order(&[1.0, 2.0, 1.0, 2.0]), Ok(vec![1, 3, 0, 2]));
+        assert_eq!(precursor_order(&[]), Ok(vec![]));
     }
 }

@@ -72,7 +72,7 @@ pub struct Psm {
     pub longest_y: u32,
     /// The matched part of the intensity in percent.
     pub matched_intensity_pct: f32,
-    /// The log10 of the probability of as many matched fragments; minus infinity where sage could not compute it.
+    /// The log10 of the probability of this many matched fragments; minus infinity where sage could not compute it.
     pub poisson: f64,
 }
 

@@ -40,7 +40,7 @@ mod refusal;
 pub mod rescoring;
 
 pub use competition::{CompetitionTable, Names, Winners, NO_PART};
-pub use counting::{order, picked_precursor, rank_keys, spectrum_q_value, QValues, LONGEST};
+pub use counting::{picked_precursor, precursor_order, rank_keys, spectrum_q_value, QValues, LONGEST};
 pub use discriminant::{Model, Scores};
 pub use features::Psm;
 pub use gauss::{solve, FEATURES};

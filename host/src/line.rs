@@ -2,7 +2,7 @@
 
 use crate::Refused;
 use std::fmt::{Display, Formatter};
-use vayemuku_sys::{self as sys, Checked};
+use vayemuku_sys::{self as sys, LineNumbers};
 
 /// The rate of a line.
 #[derive(Clone, Copy, Debug, PartialEq, Eq)]
@@ -74,9 +74,9 @@ pub fn check_line(labels: &[i32], line: usize, rate: Rate) -> Result<Line, Refus
         Rate::OneIn100 => sys::check_line_100,
         Rate::OneIn20 => sys::check_line_20,
     };
-    let mut checked = Checked::default();
-    Refused::check(check(labels, line, &mut checked))?;
-    let Checked { right, row, decoys_plus_one, targets } = checked;
+    let mut numbers = LineNumbers::default();
+    Refused::check(check(labels, line, &mut numbers))?;
+    let LineNumbers { right, row, decoys_plus_one, targets } = numbers;
     let counts = Counts { row, decoys_plus_one, targets };
     Ok(match right {
         1 => Line::Right(counts),

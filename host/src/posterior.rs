@@ -53,7 +53,7 @@ pub struct Builder {
 impl Default for Builder {
     /// Monotonic, with 1000 bins.
     fn default() -> Builder {
-        Builder { monotonic: true, bins: 1000 }
+        Builder { monotonic: true, bins: sys::VAYEMUKU_BINS }
     }
 }
 
@@ -63,11 +63,11 @@ impl Builder {
     /// Refuses with [`TooLong`](crate::Refusal::TooLong), and with [`OutOfRange`](crate::Refusal::OutOfRange) where the
     /// bins are not 1 to 65,536.
     pub fn bin_scores(self, scores: &[f64]) -> Result<BinScores, Refused> {
-        // any number of bins above the most is refused alike
-        let bins = self.bins.min(MOST_BINS + 1);
+        // every number of bins above the most is refused in the same way
+        let bin_count = self.bins.min(MOST_BINS + 1);
         let (mut min_score, mut score_step) = (f64::NAN, f64::NAN);
-        let mut bin_scores = vec![f64::NAN; bins];
-        Refused::check(sys::bin_scores(bins, scores, &mut bin_scores, &mut min_score, &mut score_step))?;
+        let mut bin_scores = vec![f64::NAN; bin_count];
+        Refused::check(sys::bin_scores(bin_count, scores, &mut bin_scores, &mut min_score, &mut score_step))?;
         Ok(BinScores { monotonic: self.monotonic, min_score, score_step, scores: bin_scores })
     }
 }

@@ -2,8 +2,8 @@
 //! spectrum_q_value and picked_protein work them out.
 
 use crate::{
-    check_line, log_errors, order, spectrum_q_value, Builder, CompetitionTable, Densities, Estimator, Line, Model,
-    Names, Psm, QValues, Rate, Refused, Scores, Tolerance, FEATURES, NO_PART,
+    check_line, log_errors, precursor_order, spectrum_q_value, Builder, CompetitionTable, Densities, Estimator, Line,
+    Model, Names, Psm, QValues, Rate, Refused, Scores, Tolerance, FEATURES, NO_PART,
 };
 use std::collections::HashMap;
 
@@ -28,15 +28,15 @@ pub struct Rescored {
 
 /// Rescores rows.
 ///
-/// `keys` has one entry per row: the key of its target protein, which for a decoy is the protein that it was made from;
-/// None for a row that several proteins share. `names` says whether a decoy has a name of its own.
+/// `protein_names` has one entry per row: the name of its target protein, which for a decoy is the protein that it was
+/// made from; None for a row that several proteins share. `names` says whether a decoy has a name of its own.
 ///
 /// # Panics
 ///
-/// Where there are fewer keys than rows.
+/// Where there are fewer protein names than rows.
 pub fn rescore(
     rows: &[Psm],
-    keys: &[Option<&[u8]>],
+    protein_names: &[Option<&[u8]>],
     names: Names,
     tolerance: Tolerance,
     densities: &mut dyn Densities,
@@ -46,13 +46,13 @@ pub fn rescore(
     let Scores { scores, narrowed } = Model::train(&features, &labels)?.score_rows(&features)?;
     drop(features);
     let posterior_errors = posterior_errors(&scores, &labels, densities)?;
-    let order = order(&scores)?;
+    let order = precursor_order(&scores)?;
 
     let scores = ranked(&order, &narrowed);
     let labels = ranked(&order, &labels);
     let spectra = spectrum_q_value(&labels)?;
     let line = check_line(&labels, spectra.count, Rate::OneIn100)?;
-    let (slots, protein_slots) = slots(&ranked(&order, keys));
+    let (slots, protein_slots) = slots(&ranked(&order, protein_names));
     let rows = RankedRows { slots: &slots, labels: &labels, scores: &scores };
     let proteins = rows.protein_q_values(names, protein_slots, densities)?;
     let posterior_errors = ranked(&order, &posterior_errors);
@@ -114,13 +114,13 @@ impl Build {
     }
 }
 
-/// Numbers the keys as slots, in the order in which the ranked rows name them; gives the slots and their number.
-fn slots(keys: &[Option<&[u8]>]) -> (Vec<u32>, usize) {
+/// Numbers the proteins as slots, in the order in which the ranked rows name them; gives the slots and their number.
+fn slots(protein_names: &[Option<&[u8]>]) -> (Vec<u32>, usize) {
     let mut numbers: HashMap<&[u8], u32> = HashMap::new();
-    let mut slots = Vec::with_capacity(keys.len());
-    for key in keys {
+    let mut slots = Vec::with_capacity(protein_names.len());
+    for name in protein_names {
         let next = numbers.len() as u32;
-        slots.push(key.map_or(NO_PART, |key| *numbers.entry(key).or_insert(next)));
+        slots.push(name.map_or(NO_PART, |name| *numbers.entry(name).or_insert(next)));
     }
     (slots, numbers.len())
 }
@@ -165,8 +165,8 @@ mod tests {
 
     #[test]
     fn slots_are_numbered_as_they_come() {
-        let keys: [Option<&[u8]>; 6] = [Some(b"b"), None, Some(b"a"), Some(b"b"), Some(b""), Some(b"a")];
-        assert_eq!(slots(&keys), (vec![0, NO_PART, 1, 0, 2, 1], 3));
+        let protein_names: [Option<&[u8]>; 6] = [Some(b"b"), None, Some(b"a"), Some(b"b"), Some(b""), Some(b"a")];
+        assert_eq!(slots(&protein_names), (vec![0, NO_PART, 1, 0, 2, 1], 3));
         assert_eq!(slots(&[None]), (vec![NO_PART], 0));
     }
 
@@ -202,11 +202,11 @@ mod tests {
     #[test]
     fn a_refusal_of_any_call_is_the_only_result() {
         let rows = rows();
-        let names: Vec<String> = (0..rows.len()).map(|row| (row / 4).to_string()).collect();
-        let keys: Vec<Option<&[u8]>> = names.iter().map(|name| Some(name.as_bytes())).collect();
+        let proteins: Vec<String> = (0..rows.len()).map(|row| (row / 4).to_string()).collect();
+        let protein_names: Vec<Option<&[u8]>> = proteins.iter().map(|name| Some(name.as_bytes())).collect();
         let tolerance = Tolerance::Ppm(-10.0, 10.0);
         let rescored = |rows: &[Psm], tolerance, short| {
-            rescore(rows, &keys[..rows.len()], Names::Two, tolerance, &mut Short { taken: 0, short })
+            rescore(rows, &protein_names[..rows.len()], Names::Two, tolerance, &mut Short { taken: 0, short })
         };
         assert!(rescored(&rows, tolerance, 0).is_ok());
         let refused = |call, refusal| Some(Refused { call, refusal });

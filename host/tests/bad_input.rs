@@ -328,7 +328,7 @@ fn help_and_version() {
 fn invalid_command_lines() {
     let folder = Folder::new("words");
     folder.write("in.tsv", LIST);
-    let fails = |words: &str, why: &str| folder.run(words).failed(2, &format!("{why}; `vayemuku help` tells more"));
+    let fails = |words: &str, why: &str| folder.run(words).failed(2, &format!("{why}; see `vayemuku help`"));
     fails("rescue in.tsv out.tsv", "there is no command 'rescue'");
     fails("rescore in.tsv", "rescore takes two files, IN.tsv and OUT.tsv");
     fails("rescore in.tsv out.tsv more.tsv", "rescore takes two files, IN.tsv and OUT.tsv");
@@ -354,12 +354,12 @@ fn invalid_command_lines() {
     fails("check in.tsv --line 1 --rate 50", "--rate takes 100 or 20, and not '50'");
     assert_eq!(folder.files(), ["in.tsv"]);
     let none = folder.run_words(&[]);
-    none.failed(2, "no command is given; `vayemuku help` tells more");
+    none.failed(2, "no command is given; see `vayemuku help`");
     let unnamed = folder.run_words(&["rescore", "in.tsv", ""]);
-    unnamed.failed(2, "the name of a file is empty; `vayemuku help` tells more");
+    unnamed.failed(2, "the name of a file is empty; see `vayemuku help`");
     let tag = folder.run_words(&["rescore", "in.tsv", "out.tsv", "--decoy-tag", ""]);
-    tag.failed(2, "--decoy-tag is empty; `vayemuku help` tells more");
+    tag.failed(2, "--decoy-tag is empty; see `vayemuku help`");
     let batch = folder.run_words(&["rescore", "in.tsv", "out.tsv", "--batch", "a\tb"]);
     let why = "the batch needs a name without tabs or line ends: give one by --batch NAME";
-    batch.failed(2, &format!("{why}; `vayemuku help` tells more"));
+    batch.failed(2, &format!("{why}; see `vayemuku help`"));
 }

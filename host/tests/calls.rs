@@ -1,8 +1,8 @@
 //! The safe calls: known points of document 01, and each of its nine refusals.
 
 use vayemuku::{
-    check_line, log_error, log_errors, order, picked_precursor, rank_keys, solve, spectrum_q_value, Builder, Call,
-    CompetitionTable, Counts, Estimator, Line, Model, Names, Rate, Refusal, Refused, Tolerance, LONGEST, NO_PART,
+    check_line, log_error, log_errors, picked_precursor, precursor_order, rank_keys, solve, spectrum_q_value, Builder,
+    Call, CompetitionTable, Counts, Estimator, Line, Model, Names, Rate, Refusal, Refused, Tolerance, LONGEST, NO_PART,
 };
 
 /// The answer of a call that refuses.
@@ -11,8 +11,8 @@ fn refused<T>(call: Call, refusal: Refusal) -> Result<T, Refused> {
 }
 
 /// A builder with this number of bins.
-fn bins(bins: usize) -> Builder {
-    Builder { monotonic: false, bins }
+fn bins(bin_count: usize) -> Builder {
+    Builder { monotonic: false, bins: bin_count }
 }
 
 /// A system of one equation.
@@ -52,7 +52,7 @@ fn one_a_list_is_too_long() {
     assert_eq!(Model::train(&[], &labels), refused(Call::Train, Refusal::TooLong));
     assert!(spectrum_q_value(&labels[1..]).is_ok());
     let scores = vec![0.0; LONGEST + 1];
-    assert_eq!(order(&scores), refused(Call::PrecursorOrder, Refusal::TooLong));
+    assert_eq!(precursor_order(&scores), refused(Call::PrecursorOrder, Refusal::TooLong));
     assert_eq!(bins(10).bin_scores(&scores), refused(Call::BinScores, Refusal::TooLong));
     assert_eq!(log_errors(&scores), refused(Call::LogErrors, Refusal::TooLong));
     assert_eq!(rank_keys(vec![1; LONGEST + 1]), refused(Call::RankKeys, Refusal::TooLong));
@@ -85,8 +85,8 @@ fn three_a_size_is_out_of_range() {
     for size in [0, 21] {
         assert_eq!(solve(&left, &right, size), refused(Call::Solve, Refusal::OutOfRange));
     }
-    for count in [0, 65_537, usize::MAX] {
-        assert_eq!(bins(count).bin_scores(&[0.0]), refused(Call::BinScores, Refusal::OutOfRange));
+    for bin_count in [0, 65_537, usize::MAX] {
+        assert_eq!(bins(bin_count).bin_scores(&[0.0]), refused(Call::BinScores, Refusal::OutOfRange));
     }
     assert_eq!(bins(65_536).bin_scores(&[0.0]).map(|bins| bins.scores().len()), Ok(65_536));
     assert_eq!(Tolerance::Da(0.0, 65_537.0).bin_count(), refused(Call::BinCount, Refusal::OutOfRange));
@@ -179,7 +179,7 @@ fn q_values_and_order() {
     assert_eq!(answer.count, 20);
     assert_eq!(answer.q[..20], [0.05; 20]);
     assert_eq!(answer.q[20], 0.1);
-    assert_eq!(order(&[1.0, 2.0, 1.0]), Ok(vec![1, 0, 2]));
+    assert_eq!(precursor_order(&[1.0, 2.0, 1.0]), Ok(vec![1, 0, 2]));
     assert_eq!(rank_keys(vec![3, 1, 2]), Ok(vec![1, 2, 3]));
 }
 

@@ -29,7 +29,7 @@ fn printed(ran: &Ran, status: i32, lines: [&str; 3]) {
 
 /// The line of a list whose rows are in the order of their ranks.
 fn ranked(rows: usize) -> String {
-    format!("list      list.tsv: {rows} rows, which stand as ranked")
+    format!("list      list.tsv: {rows} rows, in ranked order")
 }
 
 /// The line of a list whose q-values are all right.
@@ -80,8 +80,12 @@ fn a_list_in_another_order_is_ranked_by_its_scores() {
     let folder = Folder::new("order");
     let mut rows = list(100, 1, |place| if place < 100 { 0.01 } else { 0.02 });
     rows.reverse();
-    let order = "list      list.tsv: 101 rows, of which row 101 (line 102) is ranked as 1";
+    let order = "list      list.tsv: 101 rows, of which row 101 (line 102) is ranked first";
     let right = "line      100 at one in 100 is Right: row 100, decoys plus one 1, targets 100";
+    printed(&check(&folder, &rows, "--line 100"), 0, [order, right, Q_RIGHT]);
+    rows.reverse();
+    rows.swap(2, 3);
+    let order = "list      list.tsv: 101 rows, of which row 4 (line 5) is ranked as 3";
     printed(&check(&folder, &rows, "--line 100"), 0, [order, right, Q_RIGHT]);
 }
 
@@ -92,14 +96,12 @@ fn q_values_that_the_counting_rule_does_not_give() {
     // the f32 next to 0.01
     let next = f32::from_bits(0x3c23_d70b);
     let rows = list(100, 1, |place| if place == 70 { next } else { [0.01, 0.02][place / 100] });
-    let wrong = "q-values  1 of 101 are not what the counting rule gives, the first as ranked in row 71 (line 72): \
-                 0.010000001, and it gives 0.01";
+    let wrong =
+        "q-values  wrong in 1 of 101 rows; the first by rank, row 71 (line 72), has 0.010000001 in place of 0.01";
     printed(&check(&folder, &rows, "--line 100"), 1, [&ranked(101), right, wrong]);
     // without the one that is added to the decoys
     let rows = list(100, 1, |place| if place < 100 { 0.0 } else { 0.01 });
-    let wrong =
-        "q-values  101 of 101 are not what the counting rule gives, the first as ranked in row 1 (line 2): 0.0, \
-                 and it gives 0.01";
+    let wrong = "q-values  wrong in 101 of 101 rows; the first by rank, row 1 (line 2), has 0.0 in place of 0.01";
     printed(&check(&folder, &rows, "--line 100"), 1, [&ranked(101), right, wrong]);
 }
 
@@ -126,5 +128,5 @@ fn a_list_that_was_rescored() {
     // the table as stored: its q-values are an old run's
     let stored = folder.run(&format!("check in.tsv --line {line}"));
     assert_eq!(stored.status, Some(1));
-    assert!(stored.stdout.contains("2000 of 2000 are not what the counting rule gives"), "{}", stored.stdout);
+    assert!(stored.stdout.contains("wrong in 2000 of 2000 rows"), "{}", stored.stdout);
 }

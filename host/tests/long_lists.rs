@@ -5,9 +5,7 @@ mod common;
 use common::{program, Folder, Ran};
 use std::io::Write;
 use std::process::Stdio;
-
-/// The most rows.
-const MOST: usize = 16_777_215;
+use vayemuku::LONGEST;
 
 /// The columns that rescore reads.
 const READ: [&str; 24] = [
@@ -61,17 +59,17 @@ fn run(words: &[&str], header: &str, first: &str, row: &str, rows: usize) -> Ran
 fn check() {
     let words = |line| ["check", "/dev/stdin", "--line", line];
     let header = "label\tsage_discriminant_score\tspectrum_q";
-    let over = run(&words("1"), header, "1\t1\t1", "1\t1\t1", MOST + 1);
+    let over = run(&words("1"), header, "1\t1\t1", "1\t1\t1", LONGEST + 1);
     over.failed(3, "/dev/stdin: row 16777216 (line 16777217): a list has at most 16,777,215 rows");
     // targets alone: every row qualifies, so that the line is after the last, and every q-value is one over the targets
-    let most = run(&words("16777215"), header, "1\t1\t1", "1\t1\t1", MOST);
+    let most = run(&words("16777215"), header, "1\t1\t1", "1\t1\t1", LONGEST);
     assert_eq!((most.status, most.stderr.as_str()), (Some(1), ""));
     assert_eq!(
         most.stdout,
-        "list      /dev/stdin: 16777215 rows, which stand as ranked\n\
+        "list      /dev/stdin: 16777215 rows, in ranked order\n\
          line      16777215 at one in 100 is Right: row 16777215, decoys plus one 1, targets 16777215\n\
-         q-values  16777215 of 16777215 are not what the counting rule gives, the first as ranked in row 1 (line 2): \
-         1.0, and it gives 5.960465e-8\n"
+         q-values  wrong in 16777215 of 16777215 rows; the first by rank, row 1 (line 2), has 1.0 in place of \
+         5.960465e-8\n"
     );
 }
 
@@ -82,11 +80,11 @@ fn rescore() {
     let row = ["1"; READ.len()].join("\t");
     let out = folder.path("out.tsv");
     let words = ["rescore", "/dev/stdin", out.to_str().unwrap()];
-    let over = run(&words, &header, &row, &row, MOST + 1);
+    let over = run(&words, &header, &row, &row, LONGEST + 1);
     over.failed(3, "/dev/stdin: row 16777216 (line 16777217): a list has at most 16,777,215 rows");
     // with one row less, the error is that of the first row
     let first = row.replacen('1', "x", 1);
-    let most = run(&words, &header, &first, &row, MOST);
+    let most = run(&words, &header, &first, &row, LONGEST);
     let why = "column rank: 'x' is no whole number from 0 to 4,294,967,295";
     most.failed(3, &format!("/dev/stdin: row 1 (line 2): {why}"));
     assert!(folder.files().is_empty());

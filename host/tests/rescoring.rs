@@ -8,7 +8,7 @@ use std::process::Command;
 /// The columns that a run works out.
 const FRESH: [&str; 4] = ["sage_discriminant_score", "posterior_error", "spectrum_q", "protein_q"];
 
-/// Stored columns that never come through.
+/// Stored columns that are never passed through.
 const STORED: [&str; 5] = ["sage_discriminant_score", "posterior_error", "spectrum_q", "peptide_q", "protein_q"];
 
 /// Today's date in UTC, from another program.

@@ -5,10 +5,10 @@ use crate::calls::{picked_precursor, spectrum_q_value};
 use crate::cases::Random;
 use crate::lists::{rising, shuffle, LONGEST};
 use crate::report::{expect, expect_column};
-use crate::sage::{peaks, q_of, room_for, Rows, PEAK_BYTES, ROW_BYTES};
+use crate::sage::{peaks, q_of, room_for, SageRows, PEAK_BYTES, ROW_BYTES};
 use sage_core::scoring::Feature;
 use sage_core::{fdr, ml::qvalue};
-use vayemuku_sys::{rank_keys, vayemuku_order_key_f32, Ranking};
+use vayemuku_sys::{rank_keys, vayemuku_order_key_f32, RankingColumns};
 
 /// Numbers of rows, and of rounds.
 const SIZES: [(usize, usize); 2] = [(1_000_000, ROUNDS), (LONGEST, 3)];
@@ -59,7 +59,7 @@ fn falling_scores(random: &mut Random, rows: usize) -> Vec<f64> {
 fn spectrum(name: &str, rows: usize, rounds: usize) -> Result<(), String> {
     room_for(rows * ROW_BYTES)?;
     let labels = labels_as_ranked(&mut Random::new(8), rows);
-    let mut sage = Rows::default();
+    let mut sage = SageRows::default();
     let features = sage.labelled(&labels);
     let mut q = vec![0.0; rows];
     let (mut port_count, mut sage_count) = (0, 0);
@@ -87,7 +87,7 @@ fn precursors(name: &str, rows: usize, rounds: usize) -> Result<(), String> {
     let (mut keys, mut spare, mut q) = (vec![0; rows], vec![0; rows], vec![0.0; rows]);
     let (mut port_count, mut sage_count) = (0, 0);
     let mut port = || {
-        let ranking = Ranking { keys: &mut keys, spare: &mut spare, q: &mut q };
+        let ranking = RankingColumns { keys: &mut keys, spare: &mut spare, q: &mut q };
         port_count = picked_precursor(&labels, &scores, ranking).1;
         port_count as u64
     };

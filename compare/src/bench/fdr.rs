@@ -4,12 +4,12 @@ use super::{head, in_rounds, median, nanoseconds, ROUNDS};
 use crate::calls::{assign_q_value, estimator};
 use crate::cases::Random;
 use crate::fdr::picked::{database, Function, Sage};
-use crate::fdr::reading::CompetitionTable;
+use crate::fdr::reading::PlainTable;
 use crate::report::{expect, expect_column};
 use sage_core::database::PeptideIx;
 use sage_core::ml::kde::{forcing, on_rayons_thread, Parts};
 use sage_core::scoring::Feature;
-use vayemuku_sys::{add_rows, fresh_table, Batch, Ranking};
+use vayemuku_sys::{add_rows, fresh_table, Batch, RankingColumns};
 
 /// Rows, slots and bins.
 const ROWS: usize = 1_000_000;
@@ -40,7 +40,7 @@ struct Port {
     slots: Vec<u32>,
     labels: Vec<i32>,
     scores: Vec<f32>,
-    table: CompetitionTable,
+    table: PlainTable,
     keys: Vec<u64>,
     spare: Vec<u64>,
     q: Vec<f32>,
@@ -59,7 +59,7 @@ impl Port {
             slots: (0..ROWS).map(|_| random.below(SLOTS as u64) as u32).collect(),
             labels,
             scores: places.iter().map(|place| f32::from_bits(1f32.to_bits() - 1 - place)).collect(),
-            table: CompetitionTable::fresh(SLOTS),
+            table: PlainTable::fresh(SLOTS),
             keys: vec![0; 2 * SLOTS],
             spare: vec![0; 2 * SLOTS],
             q: vec![0.0; ROWS],
@@ -78,7 +78,7 @@ impl Port {
     fn assign(&mut self, function: Function, parts: &Parts) -> (u32, usize) {
         let Port { slots, labels, table, keys, spare, q, .. } = self;
         let two_names = u32::from(matches!(function, Function::Protein));
-        assign_q_value(two_names, estimator(parts), table.columns(), (slots, labels), Ranking { keys, spare, q })
+        assign_q_value(two_names, estimator(parts), table.columns(), (slots, labels), RankingColumns { keys, spare, q })
     }
 }
 

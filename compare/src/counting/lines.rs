@@ -7,7 +7,7 @@ use crate::cases::Random;
 use crate::lists::{label, LONGEST};
 use crate::report::{expect, Tally};
 use host::Rate;
-use vayemuku_sys::Checked;
+use vayemuku_sys::LineNumbers;
 
 /// A tally for each rate.
 pub struct Lines([(Rate, Tally); 2]);
@@ -56,7 +56,7 @@ impl Lines {
 
     /// A check of this line is refused, and every number returned is 0.
     fn refusal(&mut self, labels: &[i32], line: usize, number: u32) {
-        let wanted = (number, Checked::default());
+        let wanted = (number, LineNumbers::default());
         for (rate, tally) in &mut self.0 {
             let port = check_line(labels, line, *rate);
             tally.outcome(expect(&format!("line {line} of {} rows", labels.len()), port, wanted));
@@ -72,7 +72,7 @@ impl Lines {
 
 /// Compares the check of one line, and gives what it says: 1 for right.
 fn compared(labels: &[i32], line: usize, rate: Rate, counted: &Counted, tally: &mut Tally) -> u32 {
-    let (port, wanted) = (check_line(labels, line, rate), (0, counted.checked(line, rate)));
+    let (port, wanted) = (check_line(labels, line, rate), (0, counted.line_numbers(line, rate)));
     tally.count(port == wanted, || {
         format!("line {line}: port {port:?}, and it should be {wanted:?}, in {}", described(labels))
     });

@@ -1,14 +1,14 @@
 //! Precursors beside sage where their scores differ, and beside the order of document 01 where they do not.
 
 use super::reading::{self, ranked, Counted};
-use super::{described, expect_passing, BEHIND, EVERY, HEADS};
+use super::{described, expect_passing, EVERY, HEADS, TAIL};
 use crate::calls::{check_line, picked_precursor};
 use crate::cases::Random;
 use crate::lists::{blocks, distinct_scores, each_pattern, label, random_labels, shuffle, tied_scores, LONGEST};
 use crate::report::{expect, expect_all, expect_column, Tally};
 use crate::sage;
 use host::Rate;
-use vayemuku_sys::{precursor_order, Ranking};
+use vayemuku_sys::{precursor_order, RankingColumns};
 
 /// The contents of working and result columns before a call.
 const GARBAGE: u64 = 0x5a5a_5a5a_5a5a_5a5a;
@@ -18,11 +18,11 @@ const GARBAGE_PLACE: u32 = 77;
 /// The blank of a whole number.
 const BLANK: u32 = u32::MAX;
 
-/// Compares both calls on `lists` random lists of either sort, and says whether nothing differed.
+/// Compares both calls on `lists` random lists of each kind, and says whether nothing differed.
 pub fn run(lists: u64) -> bool {
     let mut calls = Precursors::new();
     each_pattern(0, EVERY, |labels| calls.distinct(labels));
-    HEADS.iter().for_each(|&head| each_pattern(head, BEHIND, |labels| calls.distinct(labels)));
+    HEADS.iter().for_each(|&head| each_pattern(head, TAIL, |labels| calls.distinct(labels)));
     let mut random = Random::new(5);
     let mut labels = Vec::new();
     for _ in 0..lists {
@@ -80,7 +80,7 @@ impl Precursors {
         self.compare(&labels, &scores, &places, wanted);
     }
 
-    /// Lists of 16,777,215 rows, one of either sort.
+    /// Lists of 16,777,215 rows, one of each kind.
     fn longest(&mut self) {
         if let Err(words) = sage::room_for(LONGEST * sage::PEAK_BYTES) {
             return self.picked.outcome(Err(format!("lists of {LONGEST} rows are not compared: {words}")));
@@ -173,7 +173,7 @@ impl Columns {
         self.keys.fill(GARBAGE);
         self.spare.fill(GARBAGE);
         let Columns { keys, spare, q, .. } = self;
-        picked_precursor(labels, scores, Ranking { keys, spare, q })
+        picked_precursor(labels, scores, RankingColumns { keys, spare, q })
     }
 
     /// The call that gives the order, on working columns full of garbage.
@@ -213,9 +213,10 @@ impl Columns {
         let as_ranked: Vec<i32> = self.order.iter().map(|&place| labels[place as usize]).collect();
         let counted = Counted::new(&as_ranked);
         let line = counted.right_line(Rate::OneIn20);
-        let checked = check_line(&as_ranked, line, Rate::OneIn20);
-        expect("the check of the right line", checked, (0, counted.checked(line, Rate::OneIn20)))?;
-        expect("count beside the right line's targets", count, checked.1.targets)?;
+        let (number, numbers) = check_line(&as_ranked, line, Rate::OneIn20);
+        let wanted = (0, counted.line_numbers(line, Rate::OneIn20));
+        expect("the check of the right line", (number, numbers), wanted)?;
+        expect("count beside the right line's targets", count, numbers.targets)?;
         let mut passes = vec![false; labels.len()];
         self.order[..line].iter().for_each(|&place| passes[place as usize] = true);
         expect_passing(&self.q, 0.05, |place| passes[place])

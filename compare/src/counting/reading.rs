@@ -3,7 +3,7 @@
 use crate::cases::Float;
 use crate::report::Answer;
 use host::Rate;
-use vayemuku_sys::Checked;
+use vayemuku_sys::LineNumbers;
 
 /// Decoys up to each row of a list; row 0 comes before the first.
 pub struct Counted(Vec<usize>);
@@ -53,11 +53,11 @@ impl Counted {
         self.last_later(0, rate).unwrap_or(0)
     }
 
-    /// What the check of a line should return.
-    pub fn checked(&self, line: usize, rate: Rate) -> Checked {
+    /// The numbers that the check of a line should give.
+    pub fn line_numbers(&self, line: usize, rate: Rate) -> LineNumbers {
         let right = self.is_right(line, rate);
         let row = self.last_later(line, rate).unwrap_or(line);
-        Checked { right: right.into(), row, decoys_plus_one: self.0[row] + 1, targets: self.targets(row) }
+        LineNumbers { right: right.into(), row, decoys_plus_one: self.0[row] + 1, targets: self.targets(row) }
     }
 
     /// The q-value of each row: the least of 1 and of decoys plus one over targets, from the row down.

@@ -5,7 +5,7 @@ use super::{described, expect_passing};
 use crate::calls::spectrum_q_value;
 use crate::lists::{label, LONGEST};
 use crate::report::{expect, expect_all, expect_column, Tally};
-use crate::sage::Rows;
+use crate::sage::SageRows;
 use host::Rate;
 
 /// The contents of a q column before a call.
@@ -14,14 +14,14 @@ const GARBAGE: f32 = 0.005;
 /// The tally, sage's rows, and the port's column.
 pub struct Spectrum {
     tally: Tally,
-    rows: Rows,
+    rows: SageRows,
     q: Vec<f32>,
 }
 
 impl Spectrum {
     /// Nothing compared yet.
     pub fn new() -> Self {
-        Spectrum { tally: Tally::new("spectrum_q_value"), rows: Rows::default(), q: Vec::new() }
+        Spectrum { tally: Tally::new("spectrum_q_value"), rows: SageRows::default(), q: Vec::new() }
     }
 
     /// Compares one list.

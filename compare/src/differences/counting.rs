@@ -2,12 +2,12 @@
 
 use super::check;
 use crate::calls::{picked_precursor, spectrum_q_value};
-use crate::sage::Rows;
+use crate::sage::SageRows;
 use fnv::FnvHashMap;
 use sage_core::database::PeptideIx;
 use sage_core::lfq::{Peak, PrecursorId};
 use std::collections::BTreeSet;
-use vayemuku_sys::Ranking;
+use vayemuku_sys::RankingColumns;
 
 /// Two targets and a decoy.
 const LABELS: [i32; 3] = [1, 1, -1];
@@ -29,7 +29,7 @@ fn sage(first: u32, scores: [f64; 3]) -> [f32; 3] {
 /// The port's.
 fn port(scores: [f64; 3]) -> [f32; 3] {
     let (mut keys, mut spare, mut q) = ([5; 3], [5; 3], [0.25; 3]);
-    picked_precursor(&LABELS, &scores, Ranking { keys: &mut keys, spare: &mut spare, q: &mut q });
+    picked_precursor(&LABELS, &scores, RankingColumns { keys: &mut keys, spare: &mut spare, q: &mut q });
     q
 }
 
@@ -53,7 +53,7 @@ fn nan() -> bool {
 /// Labels that are neither -1 nor 1.
 fn labels() -> bool {
     let labels = [0, 7, -2];
-    let (mut rows, mut q) = (Rows::default(), [0.25; 3]);
+    let (mut rows, mut q) = (SageRows::default(), [0.25; 3]);
     let sage: Vec<f32> = rows.spectrum(&labels).0.collect();
     spectrum_q_value(&labels, &mut q);
     let third = "[0.33333334, 0.33333334, 0.33333334]";

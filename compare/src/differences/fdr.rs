@@ -2,8 +2,8 @@
 
 use super::check;
 use crate::calls::{assign_q_value, estimator};
-use crate::fdr::draws::Rows;
-use crate::fdr::reading::{CompetitionTable, NO_PART};
+use crate::fdr::draws::SlotRows;
+use crate::fdr::reading::{PlainTable, NO_PART};
 use crate::fdr::tables::rows as columns;
 use fnv::FnvHashMap;
 use sage_core::database::{IndexedDatabase, PeptideIx};
@@ -12,7 +12,7 @@ use sage_core::ml::kde::{forcing, recording, Build, Parts};
 use sage_core::peptide::Peptide;
 use sage_core::scoring::Feature;
 use std::collections::BTreeSet;
-use vayemuku_sys::{add_rows, fresh_table, winners, Ranking};
+use vayemuku_sys::{add_rows, fresh_table, winners, RankingColumns};
 
 /// The field of a q-value before a call.
 const BEFORE: f32 = 0.5;
@@ -54,13 +54,9 @@ fn sage(db: &IndexedDatabase, rows: &[BatchRow], parts: &Parts) -> (Vec<f32>, us
 }
 
 /// The port's table of two slots with these rows.
-fn table(rows: &[BatchRow]) -> CompetitionTable {
-    let mut table = CompetitionTable {
-        forward: vec![0.5; 2],
-        reverse: vec![0.5; 2],
-        forward_seen: vec![5; 2],
-        reverse_seen: vec![5; 2],
-    };
+fn table(rows: &[BatchRow]) -> PlainTable {
+    let mut table =
+        PlainTable { forward: vec![0.5; 2], reverse: vec![0.5; 2], forward_seen: vec![5; 2], reverse_seen: vec![5; 2] };
     let fresh = fresh_table(table.columns_mut());
     let added = add_rows(columns(rows).all(), table.columns_mut());
     assert_eq!((fresh.number, added.number), (0, 0));
@@ -68,16 +64,16 @@ fn table(rows: &[BatchRow]) -> CompetitionTable {
 }
 
 /// The port's q-values of rows in a table, and its count; `two_names` is 0 for one name.
-fn assigned(two_names: u32, table: &CompetitionTable, rows: &[BatchRow], parts: &Parts) -> (Vec<f32>, usize) {
-    let Rows { slots, labels, .. } = columns(rows);
+fn assigned(two_names: u32, table: &PlainTable, rows: &[BatchRow], parts: &Parts) -> (Vec<f32>, usize) {
+    let SlotRows { slots, labels, .. } = columns(rows);
     let (mut keys, mut spare, mut q) = ([5; 4], [5; 4], vec![BEFORE; rows.len()]);
-    let ranking = Ranking { keys: &mut keys, spare: &mut spare, q: &mut q };
+    let ranking = RankingColumns { keys: &mut keys, spare: &mut spare, q: &mut q };
     let (_, count) = assign_q_value(two_names, estimator(parts), table.columns(), (&slots, &labels), ranking);
     (q, count)
 }
 
 /// The port's winners of a table of two slots: scores, and whether they are decoys.
-fn port_winners(table: &CompetitionTable) -> ([f32; 2], [u32; 2]) {
+fn port_winners(table: &PlainTable) -> ([f32; 2], [u32; 2]) {
     let (mut scores, mut is_decoy) = ([0.5; 2], [5; 2]);
     let returned = winners(table.columns(), &mut scores, &mut is_decoy);
     assert_eq!(returned.number, 0);

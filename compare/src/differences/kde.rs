@@ -14,11 +14,11 @@ use vayemuku_sys::{posterior_bins, vayemuku_log_error, EstimatorRef};
 
 /// The lines of the module.
 pub fn lines() -> Vec<bool> {
-    [bin_numbers(), tolerances(), no_rows(), vec![flags(), infinite_error(), kernels()]].concat()
+    [bin_counts(), tolerances(), no_rows(), vec![flags(), infinite_error(), kernels()]].concat()
 }
 
 /// No bins, and one.
-fn bin_numbers() -> Vec<bool> {
+fn bin_counts() -> Vec<bool> {
     let none = |monotonic| Builder::default().monotonic(monotonic).bins(0).build(&[0.0, 1.0], &[true, false]);
     let raised = unless_it_panics(|| none(true).parts().bins);
     let plain = unless_it_panics(|| none(false).parts().bins);

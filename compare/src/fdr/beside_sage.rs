@@ -1,7 +1,7 @@
 //! The calls beside sage's unchanged picked_protein and picked_protein_group.
 
-use super::buffers::{expect_up_to_zeros, TableBuffer, Winners};
-use super::draws::{self, Rows};
+use super::buffers::{expect_up_to_zeros, TableBuffer, WinnersBuffer};
+use super::draws::{self, SlotRows};
 use super::picked::{competitions, Function, Picked, Sage};
 use super::Calls;
 use crate::calls::bin_scores;
@@ -24,8 +24,8 @@ const BINS: usize = 1000;
 /// The port's winners of a list of rows.
 pub struct Won<'a> {
     pub slots: usize,
-    pub rows: &'a Rows,
-    pub winners: Winners,
+    pub rows: &'a SlotRows,
+    pub winners: WinnersBuffer,
 }
 
 impl Calls {
@@ -53,7 +53,7 @@ impl Calls {
     }
 
     /// Compares the q-values that rows get by these bins, and the count.
-    pub fn competition(&mut self, names: Names, picked: &Picked, parts: &Parts, table: &TableBuffer, rows: &Rows) {
+    pub fn competition(&mut self, names: Names, picked: &Picked, parts: &Parts, table: &TableBuffer, rows: &SlotRows) {
         let (read, count, filled) = self.q_as_read(names, parts, table, rows);
         let outcome = expect("count beside sage's", count, picked.count)
             .and_then(|()| expect_up_to_zeros("q beside sage's", filled.after()?, &picked.q, read.both_zeros));

@@ -1,11 +1,11 @@
 //! Tables and columns for a call to write, with places on both sides that the call must not write.
 
-use super::reading::CompetitionTable;
+use super::reading::PlainTable;
 use crate::calls::{assign_q_value, estimator};
 use crate::kde::buffers::Buffer;
 use crate::report::{expect_all, expect_column};
 use sage_core::ml::kde::Parts;
-use vayemuku_sys::{winners, Ranking, TableColumns, TableMut, TableRef};
+use vayemuku_sys::{winners, RankingColumns, TableColumns, TableMut, TableRef};
 
 /// The contents of columns before a call.
 const GARBAGE: u64 = 0x5a5a_5a5a_5a5a_5a5a;
@@ -42,7 +42,7 @@ impl TableBuffer {
     }
 
     /// A copy of a table.
-    pub fn copy_of(table: &CompetitionTable) -> Self {
+    pub fn copy_of(table: &PlainTable) -> Self {
         let mut buffer = TableBuffer::garbage(table.lengths());
         let columns = buffer.columns_mut();
         columns.forward.copy_from_slice(&table.forward);
@@ -73,9 +73,9 @@ impl TableBuffer {
     }
 
     /// The contents.
-    pub fn contents(&self) -> CompetitionTable {
+    pub fn contents(&self) -> PlainTable {
         let columns = self.columns();
-        CompetitionTable {
+        PlainTable {
             forward: columns.forward.to_vec(),
             reverse: columns.reverse.to_vec(),
             forward_seen: columns.forward_seen.to_vec(),
@@ -84,7 +84,7 @@ impl TableBuffer {
     }
 
     /// Ok where the contents are those wanted, and nothing beside them was written.
-    pub fn expect(&self, wanted: &CompetitionTable) -> Result<(), String> {
+    pub fn expect(&self, wanted: &PlainTable) -> Result<(), String> {
         expect_column("forward", self.forward.after()?, wanted.forward.iter().copied())?;
         expect_column("reverse", self.reverse.after()?, wanted.reverse.iter().copied())?;
         expect_column("forward's mark", self.forward_seen.after()?, wanted.forward_seen.iter().copied())?;
@@ -92,7 +92,7 @@ impl TableBuffer {
     }
 
     /// The same with the bits of NaNs.
-    pub fn expect_bits(&self, wanted: &CompetitionTable) -> Result<(), String> {
+    pub fn expect_bits(&self, wanted: &PlainTable) -> Result<(), String> {
         let bits = |floats: &[f32]| floats.iter().map(|x| x.to_bits()).collect::<Vec<u32>>();
         expect_column("forward's bits", &bits(self.forward.after()?), bits(&wanted.forward).into_iter())?;
         expect_column("reverse's bits", &bits(self.reverse.after()?), bits(&wanted.reverse).into_iter())?;
@@ -100,30 +100,30 @@ impl TableBuffer {
     }
 }
 
-/// Both columns of winners.
-pub struct Winners {
+/// The two columns that winners writes.
+pub struct WinnersBuffer {
     pub scores: Buffer<f32>,
     pub is_decoy: Buffer<u32>,
 }
 
-impl Winners {
+impl WinnersBuffer {
     /// The number of the winners of a table, and columns of these lengths afterwards.
-    pub fn call(table: &TableBuffer, [scores, is_decoy]: [usize; 2]) -> (u32, Winners) {
+    pub fn call(table: &TableBuffer, [scores, is_decoy]: [usize; 2]) -> (u32, WinnersBuffer) {
         let mut filled =
-            Winners { scores: Buffer::new(scores, GARBAGE_FLOAT), is_decoy: Buffer::new(is_decoy, GARBAGE_MARK) };
+            WinnersBuffer { scores: Buffer::new(scores, GARBAGE_FLOAT), is_decoy: Buffer::new(is_decoy, GARBAGE_MARK) };
         let returned = winners(table.columns(), filled.scores.column_mut(), filled.is_decoy.column_mut());
         (returned.number, filled)
     }
 }
 
-/// The working columns, and the q-values.
-pub struct QValues {
+/// The columns that assign_q_value writes: two working columns, and the q-values.
+pub struct RankingBuffer {
     keys: Buffer<u64>,
     spare: Buffer<u64>,
     q: Buffer<f32>,
 }
 
-impl QValues {
+impl RankingBuffer {
     /// The number and the count of q-values, and columns of these lengths afterwards.
     pub fn call(
         two_names: u32,
@@ -131,14 +131,14 @@ impl QValues {
         table: &TableBuffer,
         rows: (&[u32], &[i32]),
         [keys, spare, q]: [usize; 3],
-    ) -> (u32, usize, QValues) {
-        let mut filled = QValues {
+    ) -> (u32, usize, RankingBuffer) {
+        let mut filled = RankingBuffer {
             keys: Buffer::new(keys, GARBAGE),
             spare: Buffer::new(spare, GARBAGE),
             q: Buffer::new(q, GARBAGE_FLOAT),
         };
-        let QValues { keys, spare, q } = &mut filled;
-        let ranking = Ranking { keys: keys.column_mut(), spare: spare.column_mut(), q: q.column_mut() };
+        let RankingBuffer { keys, spare, q } = &mut filled;
+        let ranking = RankingColumns { keys: keys.column_mut(), spare: spare.column_mut(), q: q.column_mut() };
         let (number, count) = assign_q_value(two_names, estimator(parts), table.columns(), rows, ranking);
         (number, count, filled)
     }

@@ -1,6 +1,6 @@
 //! The feature rows, tables and estimators that competitions are tried on.
 
-use super::reading::{CompetitionTable, NO_PART};
+use super::reading::{PlainTable, NO_PART};
 use crate::cases::{random_float, Random};
 use crate::kde::draws::{self, between, one_of};
 use crate::lists::{distinct_scores, label, tied_scores};
@@ -8,8 +8,8 @@ use sage_core::ml::kde::Parts;
 use std::collections::HashSet;
 use vayemuku_sys::Batch;
 
-/// Scores that leave f32::MIN.
-const LOWEST: [f32; 3] = [f32::NEG_INFINITY, f32::MIN, f32::NAN];
+/// Scores that leave a side at f32::MIN, the least finite f32, at which it starts.
+const LEAST: [f32; 3] = [f32::NEG_INFINITY, f32::MIN, f32::NAN];
 
 /// Marks of seen sides.
 const SEEN: [u32; 8] = [1, 1, 1, 2, 256, 65_536, 1 << 31, u32::MAX];
@@ -20,15 +20,15 @@ const CONSTANT: [f64; 12] = [0.0, 0.0, 0.0, 1e-9, -0.005, -1e-3, 0.01, 0.5, -1.0
 /// Posterior errors, of which some are the least f32.
 const CANCELLING: [f64; 6] = [1e-45, -1e-45, 1e-45, -1e-45, 0.0, -0.0];
 
-/// Feature rows.
+/// Feature rows: the slot, label and score of each.
 #[derive(Clone, Default)]
-pub struct Rows {
+pub struct SlotRows {
     pub slots: Vec<u32>,
     pub labels: Vec<i32>,
     pub scores: Vec<f32>,
 }
 
-impl Rows {
+impl SlotRows {
     /// Adds a row.
     fn push(&mut self, slot: u32, decoy: bool, score: f32) {
         self.labels.push(label(decoy, self.slots.len()));
@@ -58,7 +58,7 @@ impl Rows {
 }
 
 /// How many slots: few, up to 400, about 100 or 200, and rarely many.
-fn slot_number(random: &mut Random) -> usize {
+fn slot_count(random: &mut Random) -> usize {
     let number = match random.below(100) {
         0..3 => random.below(2),
         3 => random.below(3_000),
@@ -87,11 +87,11 @@ fn seen_sides(random: &mut Random, slots: usize) -> Vec<(u32, bool)> {
 
 /// Random rows, with the number of their slots. The best scores of all sides differ as numbers, which is document 01's
 /// comparison domain.
-pub fn distinct_rows(random: &mut Random) -> (usize, Rows) {
-    let slots = slot_number(random);
+pub fn distinct_rows(random: &mut Random) -> (usize, SlotRows) {
+    let slots = slot_count(random);
     let sides = seen_sides(random, slots);
     let scores = side_scores(random, &sides);
-    let mut rows = Rows::default();
+    let mut rows = SlotRows::default();
     let (most, shared) = (random.below(4), random.below(8));
     for (&(slot, decoy), &best) in sides.iter().zip(&scores) {
         rows.push(slot, decoy, best);
@@ -106,8 +106,8 @@ pub fn distinct_rows(random: &mut Random) -> (usize, Rows) {
     (slots, rows)
 }
 
-/// The best score of every side: moderate, those of decoys lower, or whole halves, or f32s of the whole range. Rarely
-/// one leaves f32::MIN.
+/// The best score of every side: moderate, those of decoys lower, or multiples of a half, or f32s of the whole range.
+/// Rarely one leaves f32::MIN.
 fn side_scores(random: &mut Random, sides: &[(u32, bool)]) -> Vec<f32> {
     let (kind, apart) = (random.below(4), one_of(random, &[0.0, 2.0, 8.0]));
     let mut order: Vec<f64> = distinct_scores(random, sides.len());
@@ -122,7 +122,7 @@ fn side_scores(random: &mut Random, sides: &[(u32, bool)]) -> Vec<f32> {
             _ => (between(random, -2.0, 2.0) + between(random, -2.0, 2.0) + apart * f64::from(u8::from(!decoy))) as f32,
         };
         if random.below(40) == 0 {
-            score = one_of(random, &LOWEST);
+            score = one_of(random, &LEAST);
         }
         while !taken.insert((score.max(f32::MIN) + 0.0).to_bits()) {
             score = between(random, -9.0, 9.0) as f32;
@@ -132,16 +132,16 @@ fn side_scores(random: &mut Random, sides: &[(u32, bool)]) -> Vec<f32> {
     scores
 }
 
-/// A score that does not raise a side above its best one, at times the zero of the other sign.
+/// A score that does not raise a side above its best one, sometimes the zero of the other sign.
 fn lower(random: &mut Random, best: f32) -> f32 {
     let score = any_score(random);
     match random.below(4) {
-        0 => one_of(random, &LOWEST),
+        0 => one_of(random, &LEAST),
         1 if best == 0.0 => -best,
         _ if score <= best => score,
         // a best score that leaves f32::MIN may be NaN
         _ if best > f32::MIN => best,
-        _ => one_of(random, &LOWEST),
+        _ => one_of(random, &LEAST),
     }
 }
 
@@ -153,7 +153,7 @@ fn any_score(random: &mut Random) -> f32 {
     }
 }
 
-/// Scores of which many are equal, with zeros, infinities and NaNs among them, or whole halves.
+/// Scores of which many are equal, with zeros, infinities and NaNs among them, or multiples of a half.
 fn tied(random: &mut Random, length: usize) -> Vec<f32> {
     let (halves, with_min) = (random.below(4) == 0, random.below(2) == 0);
     let mut scores: Vec<f32> = tied_scores(random, length).into_iter().map(|score| score as f32).collect();
@@ -169,7 +169,7 @@ fn tied(random: &mut Random, length: usize) -> Vec<f32> {
 }
 
 /// Any table, also one that no rows give: tied scores, NaN among them, unseen sides with any score, and any marks.
-pub fn table(random: &mut Random, slots: usize) -> CompetitionTable {
+pub fn table(random: &mut Random, slots: usize) -> PlainTable {
     let unseen = random.below(4);
     let mut marks = || {
         let mark = |_| if random.below(4) < unseen { 0 } else { one_of(random, &SEEN) };
@@ -177,7 +177,7 @@ pub fn table(random: &mut Random, slots: usize) -> CompetitionTable {
     };
     let (forward_seen, reverse_seen) = (marks(), marks());
     let mut columns =
-        CompetitionTable { forward: tied(random, slots), reverse: tied(random, slots), forward_seen, reverse_seen };
+        PlainTable { forward: tied(random, slots), reverse: tied(random, slots), forward_seen, reverse_seen };
     if random.below(2) == 0 {
         for slot in 0..slots {
             if random.below(3) == 0 {
@@ -189,11 +189,11 @@ pub fn table(random: &mut Random, slots: usize) -> CompetitionTable {
 }
 
 /// Rows with tied scores, over these slots.
-pub fn tied_rows(random: &mut Random, slots: usize) -> Rows {
+pub fn tied_rows(random: &mut Random, slots: usize) -> SlotRows {
     let most = one_of(random, &[3, 60, 4 * slots as u64 + 1]);
     let length = random.below(most) as usize;
     let scores = tied(random, length);
-    let mut rows = Rows::default();
+    let mut rows = SlotRows::default();
     for score in scores {
         let slot = match slots == 0 || random.below(8) == 0 {
             true => NO_PART,
@@ -205,15 +205,15 @@ pub fn tied_rows(random: &mut Random, slots: usize) -> Rows {
 }
 
 /// The best scores of a table's seen sides.
-fn best_scores(columns: &CompetitionTable) -> Vec<f64> {
+fn best_scores(columns: &PlainTable) -> Vec<f64> {
     let forward = columns.forward.iter().zip(&columns.forward_seen);
     let sides = forward.chain(columns.reverse.iter().zip(&columns.reverse_seen));
     sides.filter(|(_, seen)| **seen != 0).map(|(score, _)| f64::from(*score)).collect()
 }
 
 /// An estimator for a table: bins from about the least of its scores to the greatest that fall, fall to zero and below,
-/// are constant, or cancel, at times with a NaN among them; or any estimator.
-pub fn estimator(random: &mut Random, columns: &CompetitionTable) -> Parts {
+/// are constant, or cancel, sometimes with a NaN among them; or any estimator.
+pub fn estimator(random: &mut Random, columns: &PlainTable) -> Parts {
     let kind = random.below(8);
     if kind == 0 {
         return draws::estimator(random);
@@ -242,8 +242,8 @@ pub fn estimator(random: &mut Random, columns: &CompetitionTable) -> Parts {
     Parts { bins, min_score: least, score_step: (greatest - least) / number.max(2) as f64 }
 }
 
-/// Bins at every half from the least score to the greatest, for scores that are whole halves. At the greatest the sum
-/// becomes 0, and below it stays so near that ratios are zeros of both signs.
+/// Bins at every half from the least score to the greatest, for scores that are multiples of a half. At the greatest
+/// the sum becomes 0, and below it stays so near that ratios are zeros of both signs.
 fn cancelling(random: &mut Random, least: f64, greatest: f64) -> Parts {
     let number = (2.0 * (greatest - least)).clamp(0.0, 999.0) as usize + 1;
     let mut bins: Vec<f64> = (0..number).map(|_| one_of(random, &CANCELLING)).collect();

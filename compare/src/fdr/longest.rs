@@ -1,7 +1,7 @@
 //! Tables of 16,777,215 slots, with a row for each.
 
-use super::draws::Rows;
-use super::reading::CompetitionTable;
+use super::draws::SlotRows;
+use super::reading::PlainTable;
 use super::Calls;
 use crate::calls::{assign_q_value, estimator};
 use crate::lists::{label, LONGEST};
@@ -9,7 +9,7 @@ use crate::report::{expect, expect_all, expect_column};
 use crate::sage::room_for;
 use host::Names;
 use sage_core::ml::kde::Parts;
-use vayemuku_sys::{add_rows, fresh_table, winners, Ranking};
+use vayemuku_sys::{add_rows, fresh_table, winners, RankingColumns};
 
 /// The memory for a slot: two tables, a row, working columns, the reading's sides, and results.
 const SLOT_BYTES: usize = 100;
@@ -23,12 +23,12 @@ impl Calls {
         if let Err(words) = room_for(LONGEST * SLOT_BYTES) {
             return self.fresh_table.outcome(Err(format!("{LONGEST} slots are not compared: {words}")));
         }
-        let rows = Rows {
+        let rows = SlotRows {
             slots: (0..LONGEST as u32).rev().collect(),
             labels: (0..LONGEST).map(|place| label(place % 7 == 3, place)).collect(),
             scores: (0..LONGEST).map(|place| (place.wrapping_mul(7_919) % 9_999_991) as f32).collect(),
         };
-        let mut wanted = CompetitionTable::fresh(LONGEST);
+        let mut wanted = PlainTable::fresh(LONGEST);
         let mut table = wanted.clone();
         table.forward.fill(0.5);
         table.reverse_seen.fill(5);
@@ -45,7 +45,7 @@ impl Calls {
     }
 
     /// The winners of a table.
-    fn longest_winners(&mut self, table: &CompetitionTable) {
+    fn longest_winners(&mut self, table: &PlainTable) {
         let (scores, decoys) = table.winners();
         let (mut port_scores, mut port_decoys) = (vec![0.5; LONGEST], vec![5; LONGEST]);
         let number = winners(table.columns(), &mut port_scores, &mut port_decoys).number;
@@ -56,13 +56,13 @@ impl Calls {
     }
 
     /// The q-values of rows.
-    fn longest_q(&mut self, names: Names, table: &CompetitionTable, rows: &Rows) {
+    fn longest_q(&mut self, names: Names, table: &PlainTable, rows: &SlotRows) {
         let bins = (0..100).map(|bin| 0.004 - f64::from(bin) * 4e-5).collect();
         let parts = Parts { bins, min_score: 0.0, score_step: 1e5 };
         let wanted = table.assigned(names, &parts, &rows.slots, &rows.labels);
         let (mut keys, mut spare) = (vec![GARBAGE; 2 * LONGEST], vec![GARBAGE; 2 * LONGEST]);
         let mut q = vec![0.5; LONGEST];
-        let ranking = Ranking { keys: &mut keys, spare: &mut spare, q: &mut q };
+        let ranking = RankingColumns { keys: &mut keys, spare: &mut spare, q: &mut q };
         let two_names = u32::from(names == Names::Two);
         let of_rows = (&rows.slots[..], &rows.labels[..]);
         let answer = assign_q_value(two_names, estimator(&parts), table.columns(), of_rows, ranking);
@@ -75,7 +75,7 @@ impl Calls {
 }
 
 /// Ok where both tables have the same contents.
-fn same(port: &CompetitionTable, wanted: &CompetitionTable) -> Result<(), String> {
+fn same(port: &PlainTable, wanted: &PlainTable) -> Result<(), String> {
     let fault = |fault| format!("{fault}, of {LONGEST} slots");
     expect_column("forward", &port.forward, wanted.forward.iter().copied())
         .and_then(|()| expect_column("reverse", &port.reverse, wanted.reverse.iter().copied()))

@@ -1,6 +1,6 @@
 //! sage's unchanged picked_protein and picked_protein_group, on rows that a port's table is made of.
 
-use super::draws::Rows;
+use super::draws::SlotRows;
 use super::reading::NO_PART;
 use crate::cases::Random;
 use crate::kde::draws::one_of;
@@ -63,7 +63,7 @@ pub fn database(slots: usize, generate_decoys: bool, decoy_tag: &str) -> Indexed
 
 impl Sage {
     /// The rows over `slots` slots, with decoys generated or not. The fields of q-values start as 1.0.
-    pub fn new(random: &mut Random, slots: usize, rows: &Rows) -> Self {
+    pub fn new(random: &mut Random, slots: usize, rows: &SlotRows) -> Self {
         let db = database(slots, random.below(2) == 0, one_of(random, &TAGS));
         let mut features = Vec::with_capacity(rows.slots.len());
         for ((&slot, &label), &score) in rows.slots.iter().zip(&rows.labels).zip(&rows.scores) {
@@ -135,7 +135,7 @@ fn feature(random: &mut Random, slots: usize, slot: u32, label: i32, score: f32)
 }
 
 /// sage's competitions of the slots, and whether each slot has a row: the loop of picked_protein, over slots.
-pub fn competitions(slots: usize, rows: &Rows) -> Vec<Option<Competition<u32>>> {
+pub fn competitions(slots: usize, rows: &SlotRows) -> Vec<Option<Competition<u32>>> {
     let mut map = vec![None; slots];
     for ((&slot, &label), &score) in rows.slots.iter().zip(&rows.labels).zip(&rows.scores) {
         if slot == NO_PART {

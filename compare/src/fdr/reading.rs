@@ -15,9 +15,9 @@ pub const NO_PART: u32 = 4_294_967_295;
 /// The blank of a 32-bit whole number.
 pub const BLANK: u32 = 4_294_967_295;
 
-/// A competition table: one entry per slot in each column.
+/// A competition table in plain columns, with one entry per slot in each.
 #[derive(Clone)]
-pub struct CompetitionTable {
+pub struct PlainTable {
     pub forward: Vec<f32>,
     pub reverse: Vec<f32>,
     pub forward_seen: Vec<u32>,
@@ -39,11 +39,11 @@ pub struct Assigned {
     pub both_zeros: bool,
 }
 
-impl CompetitionTable {
+impl PlainTable {
     /// Each side starts at f32::MIN and unseen.
     pub fn fresh(slots: usize) -> Self {
         let (scores, marks) = (vec![f32::MIN; slots], vec![0; slots]);
-        CompetitionTable { forward: scores.clone(), reverse: scores, forward_seen: marks.clone(), reverse_seen: marks }
+        PlainTable { forward: scores.clone(), reverse: scores, forward_seen: marks.clone(), reverse_seen: marks }
     }
 
     /// A row raises its side by max and marks it seen (mark 1), even if its score is NaN.
@@ -136,13 +136,13 @@ impl CompetitionTable {
 
     /// The columns, to read.
     pub fn columns(&self) -> TableRef<'_> {
-        let CompetitionTable { forward, reverse, forward_seen, reverse_seen } = self;
+        let PlainTable { forward, reverse, forward_seen, reverse_seen } = self;
         TableColumns { forward, reverse, forward_seen, reverse_seen }
     }
 
     /// The columns, to write.
     pub fn columns_mut(&mut self) -> TableMut<'_> {
-        let CompetitionTable { forward, reverse, forward_seen, reverse_seen } = self;
+        let PlainTable { forward, reverse, forward_seen, reverse_seen } = self;
         TableColumns { forward, reverse, forward_seen, reverse_seen }
     }
 
@@ -154,12 +154,12 @@ impl CompetitionTable {
 
 /// The first of questions 1, 2, 3 and 5 that is answered with no, or 0: of lists with these lengths, of columns with
 /// the lengths that they have and those stated, of a number of bins, and of slots with a slot count.
-pub fn refusal(lists: &[usize], columns: &[(usize, usize)], bins: usize, slots: &[u32], slot_count: usize) -> u32 {
+pub fn refusal(lists: &[usize], columns: &[(usize, usize)], bin_count: usize, slots: &[u32], slot_count: usize) -> u32 {
     if lists.iter().any(|length| *length > LONGEST) {
         1
     } else if columns.iter().any(|(length, stated)| length != stated) {
         2
-    } else if !in_range(bins) {
+    } else if !in_range(bin_count) {
         3
     } else if slots.iter().any(|slot| *slot as usize >= slot_count && *slot != NO_PART) {
         5

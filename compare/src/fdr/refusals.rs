@@ -1,9 +1,9 @@
 //! Refusals: the number of the first question answered with no, blanks in result columns, 0 in working columns, and
 //! tables as they were.
 
-use super::buffers::{QValues, TableBuffer, Winners};
+use super::buffers::{RankingBuffer, TableBuffer, WinnersBuffer};
 use super::draws;
-use super::reading::{refusal, CompetitionTable, BLANK};
+use super::reading::{refusal, PlainTable, BLANK, NO_PART};
 use super::Calls;
 use crate::cases::Random;
 use crate::kde::draws::{between, one_of};
@@ -26,7 +26,7 @@ const TRIALS: usize = 40_000;
 /// One entry more than a list may have.
 const LONG: usize = LONGEST + 1;
 
-/// CompetitionTable of rows of these lengths; a slot in the middle is past the end where `past` says so.
+/// The columns of rows; a slot in the middle is past the end where `past` says so.
 struct Lists {
     slots: Vec<u32>,
     labels: Vec<i32>,
@@ -34,13 +34,13 @@ struct Lists {
 }
 
 impl Lists {
-    /// Rows whose slots are below `count`, but for the one that is past the end. A long column is zeroed memory.
-    fn new([slots, labels, scores]: [usize; 3], count: usize, past: Option<u32>) -> Self {
+    /// Rows whose slots are below `slot_count`, except the one that is past the end. A long column is zeroed memory.
+    fn new([slots, labels, scores]: [usize; 3], slot_count: usize, past: Option<u32>) -> Self {
         let mut lists = Lists { slots: vec![0; slots], labels: vec![0; labels], scores: vec![0.0; scores] };
-        if slots < LONG && count > 0 {
-            lists.slots.iter_mut().zip(0..).for_each(|(slot, place)| *slot = place % count as u32);
+        if slots < LONG && slot_count > 0 {
+            lists.slots.iter_mut().zip(0..).for_each(|(slot, place)| *slot = place % slot_count as u32);
         } else if slots < LONG {
-            lists.slots.fill(BLANK);
+            lists.slots.fill(NO_PART);
         }
         if labels < LONG {
             lists.labels.iter_mut().enumerate().for_each(|(place, entry)| *entry = label(place % 3 == 1, place));
@@ -110,20 +110,20 @@ impl Calls {
             self.winners_refusal(lengths);
         }
         for _ in 0..TRIALS {
-            let (lengths, bins) = (some_lengths(&mut self.random), one_of(&mut self.random, &BINS[..5]));
+            let (lengths, bin_count) = (some_lengths(&mut self.random), one_of(&mut self.random, &BINS[..5]));
             let past = [None, None, Some(one_of(&mut self.random, &PAST))][self.random.below(3) as usize];
-            self.q_refusal(lengths, bins, past);
+            self.q_refusal(lengths, bin_count, past);
         }
         let right = [5, 5, 5, 3, 3, 3, 3, 6, 6];
-        for bins in BINS {
+        for bin_count in BINS {
             for past in [None, Some(PAST[1])] {
-                self.q_refusal(right, bins, past);
-                self.q_refusal([5, 5, 4, 3, 3, 3, 3, 6, 6], bins, past);
+                self.q_refusal(right, bin_count, past);
+                self.q_refusal([5, 5, 4, 3, 3, 3, 3, 6, 6], bin_count, past);
             }
         }
         for lengths in long_ones(right).chain([[5, 5, 5, LONG, LONG, LONG, LONG, 2 * LONG, 2 * LONG]]) {
-            for (bins, past) in [(0, Some(PAST[0])), (MOST_BINS + 1, None), (2, Some(PAST[2])), (2, None)] {
-                self.q_refusal(lengths, bins, past);
+            for (bin_count, past) in [(0, Some(PAST[0])), (MOST_BINS + 1, None), (2, Some(PAST[2])), (2, None)] {
+                self.q_refusal(lengths, bin_count, past);
             }
         }
     }
@@ -134,7 +134,7 @@ impl Calls {
         let mut table = table(&mut self.random, lengths);
         let before = table.contents();
         let number = fresh_table(table.columns_mut()).number;
-        let after = if wanted == 0 { CompetitionTable::fresh(lengths[0]) } else { before };
+        let after = if wanted == 0 { PlainTable::fresh(lengths[0]) } else { before };
         let outcome = expect("number", number, wanted).and_then(|()| table.expect_bits(&after));
         self.fresh_table.outcome(outcome.map_err(|fault| format!("{fault}, lengths {lengths:?}")));
     }
@@ -173,7 +173,7 @@ impl Calls {
             return;
         }
         let before = table.contents();
-        let (number, filled) = Winners::call(&table, [scores, is_decoy]);
+        let (number, filled) = WinnersBuffer::call(&table, [scores, is_decoy]);
         let outcome = expect("number", number, wanted)
             .and_then(|()| expect_all("score", filled.scores.after()?, f32::NAN))
             .and_then(|()| expect_all("is_decoy", filled.is_decoy.after()?, BLANK))
@@ -182,21 +182,21 @@ impl Calls {
     }
 
     /// Q-values of slots, labels and q, a table, keys and spare of these lengths.
-    fn q_refusal(&mut self, lengths: [usize; 9], bins: usize, past: Option<u32>) {
+    fn q_refusal(&mut self, lengths: [usize; 9], bin_count: usize, past: Option<u32>) {
         let [slots, labels, q, forward, reverse, forward_seen, reverse_seen, keys, spare] = lengths;
         let of_table = [forward, reverse, forward_seen, reverse_seen];
         let lists = Lists::new([slots, labels, 0], forward, past);
         let mut columns = vec![(labels, slots), (q, slots), (keys, 2 * forward), (spare, 2 * forward)];
         columns.extend(table_columns(of_table));
         let of_lists = [slots, labels, forward, reverse, forward_seen, reverse_seen];
-        let wanted = refusal(&of_lists, &columns, bins, &lists.slots, forward);
+        let wanted = refusal(&of_lists, &columns, bin_count, &lists.slots, forward);
         let random = &mut self.random;
-        let bin_column = (0..bins).map(|_| between(random, -1.0, 1.0)).collect();
+        let bin_column = (0..bin_count).map(|_| between(random, -1.0, 1.0)).collect();
         let parts = Parts { bins: bin_column, min_score: -3.0, score_step: 0.5 };
         let table = table(random, of_table);
         let (before, two) = (table.contents(), random.below(2) as u32);
         let rows = (&lists.slots[..], &lists.labels[..]);
-        let (number, count, filled) = QValues::call(two, &parts, &table, rows, [keys, spare, q]);
+        let (number, count, filled) = RankingBuffer::call(two, &parts, &table, rows, [keys, spare, q]);
         let outcome = expect("number", number, wanted).and_then(|()| match wanted {
             0 => {
                 let names = if two == 1 { Names::Two } else { Names::One };
@@ -210,7 +210,7 @@ impl Calls {
             }
         });
         let outcome = outcome.and_then(|()| table.expect_bits(&before));
-        let in_case = |fault| format!("{fault}, lengths {lengths:?}, {bins} bins, past {past:?}");
+        let in_case = |fault| format!("{fault}, lengths {lengths:?}, {bin_count} bins, past {past:?}");
         self.assign_q_value.outcome(outcome.map_err(in_case));
     }
 }

@@ -3,7 +3,7 @@
 //! picked_protein_group.
 
 use super::beside_sage::{densities, Won};
-use super::draws::Rows;
+use super::draws::SlotRows;
 use super::picked::{database, Function, Sage, SHARED};
 use super::reading::NO_PART;
 use super::Calls;
@@ -75,7 +75,7 @@ impl Calls {
     }
 
     /// Proteins and their groups, on bins that are fitted.
-    fn proteins(&mut self, slots: usize, features: Vec<Feature>, rows: Rows) -> Result<(), String> {
+    fn proteins(&mut self, slots: usize, features: Vec<Feature>, rows: SlotRows) -> Result<(), String> {
         let generate_decoys = self.random.below(2) == 0;
         let mut sage = Sage::with(database(slots, generate_decoys, "rev_"), features);
         let table = self.filled(slots, &rows);
@@ -99,9 +99,9 @@ fn scored(raw: &[Feature], unit: usize, width: f32, builds: &[Build]) -> Result<
         _ => f64::from(row.expmass - row.calcmass),
     };
     let mass_errors: Vec<f64> = raw.iter().map(mass_error).collect();
-    let (number, bins) = bin_count(unit as u32, -width / 2.0, width / 2.0);
+    let (number, bin_count) = bin_count(unit as u32, -width / 2.0, width / 2.0);
     expect("number of bin_count", number, 0)?;
-    let of_masses = estimator(&mass_errors, &labels, 0, bins, [2.0, 0.1][unit], &builds[0])?;
+    let of_masses = estimator(&mass_errors, &labels, 0, bin_count, [2.0, 0.1][unit], &builds[0])?;
     let mut of_mass = vec![GARBAGE; raw.len()];
     errors(&of_masses, &mass_errors, &mut of_mass)?;
     let features: Vec<Vector> = raw.iter().zip(&of_mass).map(|(row, error)| transformed(row, *error)).collect();
@@ -129,15 +129,15 @@ fn estimator(
     scores: &[f64],
     labels: &[i32],
     monotonic: u32,
-    bins: usize,
+    bin_count: usize,
     width: f64,
     build: &Build,
 ) -> Result<Parts, String> {
-    let (mut at, mut column) = (vec![GARBAGE; bins], vec![GARBAGE; bins]);
-    let built = bin_scores(bins, scores, &mut at);
+    let (mut at, mut column) = (vec![GARBAGE; bin_count], vec![GARBAGE; bin_count]);
+    let built = bin_scores(bin_count, scores, &mut at);
     expect("number of bin_scores", built.number, 0)?;
     let [decoy, target] = densities(build, width, &at);
-    let returned = posterior_bins(monotonic, bins, labels, &decoy, &target, &mut column);
+    let returned = posterior_bins(monotonic, bin_count, labels, &decoy, &target, &mut column);
     expect("number of posterior_bins", returned.number, 0)?;
     Ok(Parts { bins: column, min_score: built.min_score, score_step: built.score_step })
 }
@@ -186,12 +186,12 @@ fn ranked(scores: &[f32]) -> Vec<usize> {
 }
 
 /// The port's columns of rows in an order. A shared peptide takes no part.
-fn rows(slots: usize, raw: &[Feature], scores: &[f32], order: &[usize]) -> Rows {
+fn rows(slots: usize, raw: &[Feature], scores: &[f32], order: &[usize]) -> SlotRows {
     let slot = |place: &usize| match raw[*place].peptide_idx.0 / 2 {
         slot if (slot as usize) < slots => slot,
         _ => NO_PART,
     };
-    Rows {
+    SlotRows {
         slots: order.iter().map(slot).collect(),
         labels: order.iter().map(|place| raw[*place].label).collect(),
         scores: order.iter().map(|place| scores[*place]).collect(),
@@ -207,7 +207,7 @@ fn spectra(features: &mut [Feature], labels: &[i32]) -> Result<(), String> {
 }
 
 /// Whether the best scores of all sides differ as numbers, and none is NaN.
-fn in_domain(rows: &Rows) -> bool {
+fn in_domain(rows: &SlotRows) -> bool {
     let (mut sides, mut scores) = (HashSet::new(), HashSet::new());
     let rows = rows.slots.iter().zip(&rows.labels).zip(&rows.scores);
     // rows are ranked: the first of a side is its best

@@ -1,9 +1,9 @@
 //! Every call beside the reading of document 01: tables made in one batch and in several with refused ones between, and
 //! tables with equal scores, zeros of both signs, NaNs and any marks.
 
-use super::buffers::{QValues, TableBuffer, Winners};
-use super::draws::{self, Rows};
-use super::reading::{refusal, Assigned, CompetitionTable, NO_PART};
+use super::buffers::{RankingBuffer, TableBuffer, WinnersBuffer};
+use super::draws::{self, SlotRows};
+use super::reading::{refusal, Assigned, PlainTable, NO_PART};
 use super::Calls;
 use crate::cases::Random;
 use crate::kde::draws::{flag, one_of};
@@ -22,13 +22,13 @@ impl Calls {
         for names in [Names::One, Names::Two] {
             let table = self.filled(2, &rows(&[(0, 1, 2.0), (1, 1, 1.0)]));
             let (number, count, filled) =
-                QValues::call(u32::from(names == Names::Two), &parts, &table, (&[0, 1], &[1, 1]), [4, 4, 2]);
+                RankingBuffer::call(u32::from(names == Names::Two), &parts, &table, (&[0, 1], &[1, 1]), [4, 4, 2]);
             let outcome = expect("number and count", (number, count), (0, 0))
                 .and_then(|()| expect_column("q", filled.after()?, [0.875; 2].into_iter()));
             self.assign_q_value.outcome(outcome.map_err(|fault| format!("{fault}, two targets 2.0 and 1.0")));
         }
         let table = self.filled(2, &rows(&[(0, 1, 1.5), (0, -1, 1.5), (1, 1, f32::NEG_INFINITY)]));
-        let (number, filled) = Winners::call(&table, [2; 2]);
+        let (number, filled) = WinnersBuffer::call(&table, [2; 2]);
         let outcome = expect("number", number, 0)
             .and_then(|()| expect_column("score", filled.scores.after()?, [1.5, f32::MIN].into_iter()))
             .and_then(|()| expect_column("is_decoy", filled.is_decoy.after()?, [1; 2].into_iter()));
@@ -36,8 +36,8 @@ impl Calls {
     }
 
     /// The port's table of these rows, made in one batch, and once more in several; both are compared with the reading.
-    pub fn filled(&mut self, slots: usize, rows: &Rows) -> TableBuffer {
-        let start = CompetitionTable::fresh(slots);
+    pub fn filled(&mut self, slots: usize, rows: &SlotRows) -> TableBuffer {
+        let start = PlainTable::fresh(slots);
         let mut table = TableBuffer::garbage([slots; 4]);
         let number = fresh_table(table.columns_mut()).number;
         let outcome = expect("number", number, 0).and_then(|()| table.expect_bits(&start));
@@ -47,7 +47,7 @@ impl Calls {
     }
 
     /// The table with all rows in one batch.
-    fn one_batch(&mut self, mut table: TableBuffer, start: &CompetitionTable, rows: &Rows) -> TableBuffer {
+    fn one_batch(&mut self, mut table: TableBuffer, start: &PlainTable, rows: &SlotRows) -> TableBuffer {
         let mut wanted = start.clone();
         wanted.add(rows.all());
         let number = add_rows(rows.all(), table.columns_mut()).number;
@@ -57,7 +57,7 @@ impl Calls {
     }
 
     /// The rows in random batches, between which others are refused.
-    fn added(&mut self, start: &CompetitionTable, rows: &Rows) {
+    fn added(&mut self, start: &PlainTable, rows: &SlotRows) {
         let mut table = TableBuffer::copy_of(start);
         let mut wanted = start.clone();
         let mut from = 0;
@@ -102,10 +102,10 @@ impl Calls {
     }
 
     /// Compares the winners of a table, which stays as it is; gives the port's.
-    pub fn winners_as_read(&mut self, table: &TableBuffer) -> Winners {
+    pub fn winners_as_read(&mut self, table: &TableBuffer) -> WinnersBuffer {
         let columns = table.contents();
         let (scores, is_decoy) = columns.winners();
-        let (number, filled) = Winners::call(table, [scores.len(); 2]);
+        let (number, filled) = WinnersBuffer::call(table, [scores.len(); 2]);
         let outcome = expect("number", number, 0)
             .and_then(|()| expect_column("score", filled.scores.after()?, scores.into_iter()))
             .and_then(|()| expect_column("is_decoy", filled.is_decoy.after()?, is_decoy.into_iter()))
@@ -120,13 +120,13 @@ impl Calls {
         names: Names,
         parts: &Parts,
         table: &TableBuffer,
-        rows: &Rows,
-    ) -> (Assigned, usize, QValues) {
+        rows: &SlotRows,
+    ) -> (Assigned, usize, RankingBuffer) {
         let (columns, two) = (table.contents(), flag(&mut self.random, names == Names::Two));
         let wanted = columns.assigned(names, parts, &rows.slots, &rows.labels);
         let (slots, length) = (columns.forward.len(), rows.slots.len());
         let lengths = [2 * slots, 2 * slots, length];
-        let (number, count, filled) = QValues::call(two, parts, table, (&rows.slots, &rows.labels), lengths);
+        let (number, count, filled) = RankingBuffer::call(two, parts, table, (&rows.slots, &rows.labels), lengths);
         let outcome = expect("number", number, 0)
             .and_then(|()| expect("count", count, wanted.count))
             .and_then(|()| expect_column("q", filled.after()?, wanted.q.iter().copied()))
@@ -138,9 +138,9 @@ impl Calls {
 }
 
 /// A batch that is refused by 2 or 5 leaves the table as it is.
-fn refused_batch(random: &mut Random, table: &mut TableBuffer, rows: &Rows) -> Result<(), String> {
+fn refused_batch(random: &mut Random, table: &mut TableBuffer, rows: &SlotRows) -> Result<(), String> {
     let before = table.contents();
-    let count = before.forward.len();
+    let slot_count = before.forward.len();
     let mut rows = rows.clone();
     let place = random.below(rows.slots.len() as u64) as usize;
     match random.below(4) {
@@ -149,21 +149,21 @@ fn refused_batch(random: &mut Random, table: &mut TableBuffer, rows: &Rows) -> R
         2 => rows.scores.push(1.0),
         _ => {
             let past = one_of(random, &PAST);
-            rows.slots[place] = if past < 2 { count as u32 + past } else { past };
+            rows.slots[place] = if past < 2 { slot_count as u32 + past } else { past };
         }
     }
-    let Rows { slots, labels, scores } = &rows;
-    let (lists, stated) = ([slots.len(), labels.len(), scores.len(), count], slots.len());
-    let wanted = refusal(&lists, &[(labels.len(), stated), (scores.len(), stated)], 1, slots, count);
+    let SlotRows { slots, labels, scores } = &rows;
+    let (lists, stated) = ([slots.len(), labels.len(), scores.len(), slot_count], slots.len());
+    let wanted = refusal(&lists, &[(labels.len(), stated), (scores.len(), stated)], 1, slots, slot_count);
     let number = add_rows(Batch { slots, labels, scores }, table.columns_mut()).number;
     expect("number of a refused batch", number, wanted)?;
     table.expect_bits(&before).map_err(|fault| format!("{fault}, after refusal {wanted}"))
 }
 
 /// Rows of these slots, labels and scores.
-pub fn rows(list: &[(u32, i32, f32)]) -> Rows {
+pub fn rows(list: &[(u32, i32, f32)]) -> SlotRows {
     let (slots, (labels, scores)) = list.iter().map(|(slot, label, score)| (*slot, (*label, *score))).unzip();
-    Rows { slots, labels, scores }
+    SlotRows { slots, labels, scores }
 }
 
 /// The first twelve entries of a column in a report.
@@ -173,14 +173,14 @@ fn few<T: std::fmt::Debug>(column: &[T]) -> String {
 }
 
 /// A table in a report.
-fn shown(columns: &CompetitionTable) -> String {
-    let CompetitionTable { forward, reverse, forward_seen, reverse_seen } = columns;
+fn shown(columns: &PlainTable) -> String {
+    let PlainTable { forward, reverse, forward_seen, reverse_seen } = columns;
     let scores = format!("forward {}, reverse {}", few(forward), few(reverse));
     format!("{} slots, {scores}, marks {} and {}", forward.len(), few(forward_seen), few(reverse_seen))
 }
 
 /// A table with rows in a report.
-fn described(start: &CompetitionTable, rows: &Rows) -> String {
-    let Rows { slots, labels, scores } = rows;
+fn described(start: &PlainTable, rows: &SlotRows) -> String {
+    let SlotRows { slots, labels, scores } = rows;
     format!("{}, slots {}, labels {}, scores {}", shown(start), few(slots), few(labels), few(scores))
 }

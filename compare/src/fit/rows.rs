@@ -6,7 +6,7 @@ use crate::cases::{partner, random_float, Random};
 use crate::lists::label;
 use host::FEATURES;
 
-/// Random labels of up to `longest` rows: of one class, of one class but for one row, or of both at a random rate.
+/// Random labels of up to `longest` rows: of one class, of one class except for one row, or of both at a random rate.
 fn labels(random: &mut Random, longest: u64) -> Vec<i32> {
     let most = 1 + random.below(longest);
     let length = 1 + random.below(most) as usize;

@@ -29,16 +29,16 @@ const NOT_FINITE: [u64; 6] = [
     0xffff_ffff_ffff_ffff,
 ];
 
-/// A tally of each call.
-pub struct Scores {
+/// A tally of each of the two calls.
+pub struct ScoreTallies {
     single: Tally,
     run: Tally,
 }
 
-impl Scores {
+impl ScoreTallies {
     /// Nothing compared yet.
     pub fn new() -> Self {
-        Scores { single: Tally::new("score"), run: Tally::new("score_rows") }
+        ScoreTallies { single: Tally::new("score"), run: Tally::new("score_rows") }
     }
 
     /// Compares random runs, and single scores for each.

@@ -59,7 +59,7 @@ impl Calls {
             let random = &mut self.random;
             let labels = draws::labels(random);
             let scores = draws::scores(random, &labels);
-            let (monotonic, bins) = (random.below(2) == 0, draws::bin_number(random));
+            let (monotonic, bins) = (random.below(2) == 0, draws::bin_count(random));
             let case = Case { monotonic, bins, scores, labels, widths: draws::widths(random) };
             let slots = case.labels.len() + random.below(case.labels.len() as u64 + 3) as usize;
             let sage = case.sage();

@@ -70,8 +70,8 @@ pub fn flag(random: &mut Random, monotonic: bool) -> u32 {
     one_of(random, &YES) * u32::from(monotonic)
 }
 
-/// A bin count: 1, 2, 3, 1000 or any up to 300, and rarely a great one.
-pub fn bin_number(random: &mut Random) -> usize {
+/// A bin count: 1, 2, 3, 1000 or any up to 300, and rarely a large one.
+pub fn bin_count(random: &mut Random) -> usize {
     match random.below(400) {
         0 => MOST_BINS,
         1 => 1 + random.below(MOST_BINS as u64) as usize,
@@ -84,7 +84,7 @@ pub fn bin_number(random: &mut Random) -> usize {
 }
 
 /// How many rows: none, one, up to 40, or up to 400.
-fn row_number(random: &mut Random) -> u64 {
+fn row_count(random: &mut Random) -> u64 {
     match random.below(20) {
         0 => 0,
         1 => 1,
@@ -95,7 +95,7 @@ fn row_number(random: &mut Random) -> u64 {
 
 /// Labels: only decoys, only targets, or any of both.
 pub fn labels(random: &mut Random) -> Vec<i32> {
-    let length = row_number(random) as usize;
+    let length = row_count(random) as usize;
     let rate = match random.below(10) {
         0 => 0,
         1 => 8,
@@ -105,7 +105,7 @@ pub fn labels(random: &mut Random) -> Vec<i32> {
 }
 
 /// Scores of these labels: moderate ones, the same with edges among them, few different ones, equal ones, zeros of both
-/// signs with other edges at times, or any floats.
+/// signs with other edges sometimes, or any floats.
 pub fn scores(random: &mut Random, labels: &[i32]) -> Vec<f64> {
     let length = labels.len();
     match random.below(12) {
@@ -126,7 +126,7 @@ pub fn scores(random: &mut Random, labels: &[i32]) -> Vec<f64> {
     }
 }
 
-/// Scores of a moderate size, those of decoys lower, and far lower at times.
+/// Scores of a moderate size, those of decoys lower, and far lower sometimes.
 fn moderate(random: &mut Random, labels: &[i32]) -> Vec<f64> {
     let (unit, apart) = (10f64.powi(random.below(7) as i32 - 3), one_of(random, &[1.0, 2.0, 100.0]));
     let middle = between(random, -5.0, 5.0);
@@ -164,7 +164,7 @@ pub fn slots(random: &mut Random, labels: &[i32], length: usize) -> Vec<u32> {
 }
 
 /// A density at every bin: moderate ones, zeros of both signs and ones, edges, small ones, or any floats.
-pub fn density(random: &mut Random, bins: usize) -> Vec<f64> {
+pub fn density(random: &mut Random, bin_count: usize) -> Vec<f64> {
     let kind = random.below(6);
     let mut one = |_| match kind {
         0 => between(random, 0.0, 1.0),
@@ -174,33 +174,33 @@ pub fn density(random: &mut Random, bins: usize) -> Vec<f64> {
         4 => one_of(random, &[0.0, 1.0, 2.0, 3.0, f64::NAN]),
         _ => random_float(random),
     };
-    (0..bins).map(&mut one).collect()
+    (0..bin_count).map(&mut one).collect()
 }
 
 /// Bins that fall, the same with edges among them, equal ones, edges, or any floats.
-fn bin_column(random: &mut Random, bins: usize) -> Vec<f64> {
+fn bin_column(random: &mut Random, bin_count: usize) -> Vec<f64> {
     let kind = random.below(5);
     let equal = random_float(random);
     let mut one = |bin: usize| match kind {
         1 if random.below(3) == 0 => one_of(random, &EDGES),
-        0 | 1 => 1.0 - (bin as f64 + between(random, 0.0, 1.0)) / bins as f64,
+        0 | 1 => 1.0 - (bin as f64 + between(random, 0.0, 1.0)) / bin_count as f64,
         2 => equal,
         3 => one_of(random, &EDGES),
         _ => random_float(random),
     };
-    (0..bins).map(&mut one).collect()
+    (0..bin_count).map(&mut one).collect()
 }
 
 /// Any estimator, also one that no build gives: 1, 2, 3, 1000, 65,536 or other numbers of bins, and steps of every
 /// kind.
 pub fn estimator(random: &mut Random) -> Parts {
-    let number = match random.below(40) {
+    let bin_count = match random.below(40) {
         0 => MOST_BINS,
         1 => 1 + random.below(MOST_BINS as u64) as usize,
         2..=8 => 1000,
-        _ => bin_number(random).min(1000),
+        _ => bin_count(random).min(1000),
     };
-    let bins = bin_column(random, number);
+    let bins = bin_column(random, bin_count);
     let mut any = |low, high| match random.below(5) {
         0 | 1 => between(random, low, high),
         2 => one_of(random, &[0.0, 1.0, 0.125, 1e-3, -3.0]),

@@ -3,7 +3,7 @@
 use super::buffers::Buffer;
 use super::reading::log_error;
 use super::{as_hex, Calls};
-use crate::cases::{each_single, Plan};
+use crate::cases::{each_single, CasePlan};
 use crate::lists::LONGEST;
 use crate::report::{expect, expect_column, Answer};
 use vayemuku_sys::{log_errors, vayemuku_log_error};
@@ -16,7 +16,7 @@ const LENGTH: usize = 1_000;
 
 impl Calls {
     /// Compares every boundary, the planned number of random floats, and the longest column.
-    pub fn logs(&mut self, plan: &Plan) {
+    pub fn logs(&mut self, plan: &CasePlan) {
         let mut column = Vec::with_capacity(LENGTH);
         each_single(plan, |log10: f64| {
             let (port, wanted) = (vayemuku_log_error(log10), log_error(log10));

@@ -17,9 +17,9 @@ impl Calls {
     pub fn mixing(&mut self, pairs: u64) {
         for _ in 0..pairs {
             let random = &mut self.random;
-            let (labels, bins) = (draws::labels(random), draws::bin_number(random));
-            let decoy = draws::density(random, bins);
-            let target = draws::density(random, bins);
+            let (labels, bin_count) = (draws::labels(random), draws::bin_count(random));
+            let decoy = draws::density(random, bin_count);
+            let target = draws::density(random, bin_count);
             let monotonic = random.below(2) == 0;
             let flag = draws::flag(random, monotonic);
             self.mix(flag, &labels, DensityPair { decoy: &decoy, target: &target });
@@ -29,19 +29,20 @@ impl Calls {
     /// Compares one pair over labels, and over the same as slots.
     fn mix(&mut self, flag: u32, labels: &[i32], densities: DensityPair) {
         let DensityPair { decoy, target } = densities;
-        let count = decoy.len();
+        let bin_count = decoy.len();
         let decoys = labels.iter().filter(|label| **label == -1).count();
         let plain = mixed(decoys as f64 / labels.len() as f64, densities);
         let among = labels.len() + self.random.below(9) as usize;
         let slots = draws::slots(&mut self.random, labels, among);
         let of_pair = |fault| {
             let (decoy, target) = (as_hex(decoy), as_hex(target));
-            format!("{fault}, {count} bins, {decoys} decoys of {}, densities {decoy} and {target}", labels.len())
+            format!("{fault}, {bin_count} bins, {decoys} decoys of {}, densities {decoy} and {target}", labels.len())
         };
-        let over_labels = filled(flag != 0, &plain, |bins| posterior_bins(flag, count, labels, decoy, target, bins));
+        let over_labels =
+            filled(flag != 0, &plain, |bins| posterior_bins(flag, bin_count, labels, decoy, target, bins));
         self.posterior_bins.outcome(over_labels.map_err(of_pair));
         let over_slots =
-            filled(flag != 0, &plain, |bins| slot_posterior_bins(flag, count, &slots, decoy, target, bins));
+            filled(flag != 0, &plain, |bins| slot_posterior_bins(flag, bin_count, &slots, decoy, target, bins));
         self.slot_posterior_bins.outcome(over_slots.map_err(of_pair));
     }
 }

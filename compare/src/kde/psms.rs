@@ -80,7 +80,7 @@ fn logs_of_rows(rows: &[Feature], build: &Build) -> Result<(), String> {
     expect_column("logarithm", logs.after()?, rows.iter().map(|row| row.posterior_error))
 }
 
-/// Ends of a tolerance, NaN at times.
+/// Ends of a tolerance, NaN sometimes.
 fn ends(random: &mut Random) -> (f32, f32) {
     let width = match random.below(8) {
         0..=3 => between(random, -100.0, 2_000.0) as f32,

@@ -14,14 +14,14 @@ pub struct DensityPair<'a> {
 }
 
 /// Builder::build: the least score and the step. Where two zeros meet, the accumulated one is kept: document 01's rule.
-pub fn span(bins: usize, scores: &[f64]) -> (f64, f64) {
+pub fn span(bin_count: usize, scores: &[f64]) -> (f64, f64) {
     let mut min_score = f64::MAX;
     let mut max_score = f64::MIN;
     for s in scores {
         min_score = first_least(min_score, *s);
         max_score = first_greatest(max_score, *s);
     }
-    (min_score, (max_score - min_score) / (bins - 1) as f64)
+    (min_score, (max_score - min_score) / (bin_count - 1) as f64)
 }
 
 /// Builder::build: the score of a bin.
@@ -65,18 +65,18 @@ pub fn log_error(log10: f64) -> f32 {
 }
 
 /// Document 01's question 3.
-pub fn in_range(bins: usize) -> bool {
-    (1..=MOST_BINS).contains(&bins)
+pub fn in_range(bin_count: usize) -> bool {
+    (1..=MOST_BINS).contains(&bin_count)
 }
 
 /// The first of questions 1 to 3 that is answered with no, or 0: of a list of `rows` rows, of columns with these
-/// lengths where `length` is stated, and of `bins` bins.
-pub fn refusal(rows: usize, columns: &[usize], length: usize, bins: usize) -> u32 {
+/// lengths where `length` is stated, and of `bin_count` bins.
+pub fn refusal(rows: usize, columns: &[usize], length: usize, bin_count: usize) -> u32 {
     if rows > LONGEST {
         1
     } else if columns.iter().any(|column| *column != length) {
         2
-    } else if !in_range(bins) {
+    } else if !in_range(bin_count) {
         3
     } else {
         0

@@ -43,8 +43,8 @@ impl Inputs {
     }
 
     /// An estimator with this number of bins.
-    fn estimator(&self, bins: usize) -> EstimatorRef<'_> {
-        EstimatorRef { min_score: 0.25, score_step: 0.5, bins: &self.floats[..bins] }
+    fn estimator(&self, bin_count: usize) -> EstimatorRef<'_> {
+        EstimatorRef { min_score: 0.25, score_step: 0.5, bins: &self.floats[..bin_count] }
     }
 }
 
@@ -56,58 +56,61 @@ impl Calls {
         self.bins_refusals(&inputs);
         self.errors_refusals(&inputs);
         self.logs_refusals(&inputs);
-        for bins in PLACES.into_iter().chain([MOST_BINS + 2, 2 * MOST_BINS, 2 * MOST_BINS + 1, LONGEST + 1]) {
-            let wanted = refusal(0, &[], 0, bins);
-            let (number, error) = posterior_error(inputs.estimator(bins), 0.75);
+        for bin_count in PLACES.into_iter().chain([MOST_BINS + 2, 2 * MOST_BINS, 2 * MOST_BINS + 1, LONGEST + 1]) {
+            let wanted = refusal(0, &[], 0, bin_count);
+            let (number, error) = posterior_error(inputs.estimator(bin_count), 0.75);
             let blank = if wanted == 0 { error } else { f64::NAN };
             let outcome = expect("number", number, wanted).and_then(|()| expect_same("error", error, blank));
-            self.posterior_error.outcome(outcome.map_err(|fault| format!("{fault}, {bins} bins")));
+            self.posterior_error.outcome(outcome.map_err(|fault| format!("{fault}, {bin_count} bins")));
         }
     }
 
     /// Step one; least score and step are NaN then.
     fn bin_scores_refusals(&mut self, inputs: &Inputs) {
-        for [rows, bins, places] in choices([&ROWS, &BINS, &PLACES]) {
-            let wanted = refusal(rows, &[places], bins, bins);
+        for [rows, bin_count, places] in choices([&ROWS, &BINS, &PLACES]) {
+            let wanted = refusal(rows, &[places], bin_count, bin_count);
             let mut column = Buffer::new(places, GARBAGE);
-            let built = bin_scores(bins, &inputs.floats[..rows], column.column_mut());
+            let built = bin_scores(bin_count, &inputs.floats[..rows], column.column_mut());
             let outcome = blank(wanted, built.number, &column, f64::NAN).and_then(|()| match wanted {
                 0 => Ok(()),
                 _ => expect_all("least score and step", &[built.min_score, built.score_step], f64::NAN),
             });
-            self.bin_scores.outcome(outcome.map_err(|fault| format!("{fault}, {rows} rows, {bins} bins, {places}")));
+            self.bin_scores
+                .outcome(outcome.map_err(|fault| format!("{fault}, {rows} rows, {bin_count} bins, {places}")));
         }
     }
 
     /// Step two, over labels and over slots.
     fn bins_refusals(&mut self, inputs: &Inputs) {
         let some = [PLACES[0], PLACES[1], PLACES[4], PLACES[5]];
-        for [rows, count, decoy, target, places] in choices([&ROWS[1..4], &BINS, &some, &some, &some]) {
-            let wanted = refusal(rows, &[decoy, target, places], count, count);
+        for [rows, bin_count, decoy, target, places] in choices([&ROWS[1..4], &BINS, &some, &some, &some]) {
+            let wanted = refusal(rows, &[decoy, target, places], bin_count, bin_count);
             let (decoys, targets) = (&inputs.floats[..decoy], &inputs.floats[..target]);
-            let described = |fault| format!("{fault}, {rows} rows, {count} bins, lengths {decoy}, {target}, {places}");
+            let described =
+                |fault| format!("{fault}, {rows} rows, {bin_count} bins, lengths {decoy}, {target}, {places}");
             let (mut over_labels, mut over_slots) = (Buffer::new(places, GARBAGE), Buffer::new(places, GARBAGE));
-            let returned = posterior_bins(1, count, &inputs.labels[..rows], decoys, targets, over_labels.column_mut());
+            let returned =
+                posterior_bins(1, bin_count, &inputs.labels[..rows], decoys, targets, over_labels.column_mut());
             self.posterior_bins.outcome(blank(wanted, returned.number, &over_labels, f64::NAN).map_err(described));
             let returned =
-                slot_posterior_bins(1, count, &inputs.flags[..rows], decoys, targets, over_slots.column_mut());
+                slot_posterior_bins(1, bin_count, &inputs.flags[..rows], decoys, targets, over_slots.column_mut());
             self.slot_posterior_bins.outcome(blank(wanted, returned.number, &over_slots, f64::NAN).map_err(described));
         }
     }
 
     /// Posterior errors of a column.
     fn errors_refusals(&mut self, inputs: &Inputs) {
-        for [rows, places, bins] in choices([&ROWS, &ERRORS, &PLACES]) {
+        for [rows, places, bin_count] in choices([&ROWS, &ERRORS, &PLACES]) {
             // a long column is tried where it has the stated length, and otherwise only with no bins
-            if places > LONGEST && places != rows && bins != 0 {
+            if places > LONGEST && places != rows && bin_count != 0 {
                 continue;
             }
-            let wanted = refusal(rows, &[places], rows, bins);
+            let wanted = refusal(rows, &[places], rows, bin_count);
             let mut column = Buffer::new(places, GARBAGE);
-            let returned = posterior_errors(inputs.estimator(bins), &inputs.floats[..rows], column.column_mut());
+            let returned = posterior_errors(inputs.estimator(bin_count), &inputs.floats[..rows], column.column_mut());
             let outcome = blank(wanted, returned.number, &column, f64::NAN);
             self.posterior_errors
-                .outcome(outcome.map_err(|fault| format!("{fault}, {rows} rows, {places}, {bins} bins")));
+                .outcome(outcome.map_err(|fault| format!("{fault}, {rows} rows, {places}, {bin_count} bins")));
         }
     }
 

@@ -3,7 +3,7 @@
 use super::reading::{bins_across, in_range};
 use super::Calls;
 use crate::calls::bin_count;
-use crate::cases::{each_pair, Plan, Random};
+use crate::cases::{each_pair, CasePlan, Random};
 use crate::report::expect;
 
 /// The units that have a bin count, with the least number of bins.
@@ -24,7 +24,7 @@ const WIDEST: u32 = 70_000;
 impl Calls {
     /// Compares document 01's points, every pair of boundaries, the planned number of random pairs, and widths at every
     /// whole number and up to two places beside it.
-    pub fn tolerances(&mut self, plan: &Plan) {
+    pub fn tolerances(&mut self, plan: &CasePlan) {
         for (unit, lo, hi, wanted) in POINTS {
             self.bin_count.outcome(expect(&format!("unit {unit} from {lo} to {hi}"), bin_count(unit, lo, hi), wanted));
         }

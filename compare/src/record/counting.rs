@@ -3,7 +3,7 @@
 use super::file::{describe, Recording};
 use crate::cases::Random;
 use crate::lists::{distinct_scores, each_pattern, label, shuffle};
-use crate::sage::{precursors, Rows};
+use crate::sage::{precursors, SageRows};
 use std::io::Result;
 use std::path::Path;
 
@@ -27,10 +27,10 @@ The lists: every pattern of up to nine decoys and targets, patterns after number
 beside one in 100 or one in 20, and random lists of up to 24 rows.
 ";
 
-/// Records lists of either sort.
+/// Records lists of each kind.
 pub fn record(folder: &Path) -> Result<()> {
     let mut random = Random::new(34);
-    let (mut spectra, mut rows) = (Recording::default(), Rows::default());
+    let (mut spectra, mut rows) = (Recording::default(), SageRows::default());
     each_list(&mut random, SPECTRA, |_, labels| {
         let (q, count) = rows.spectrum(labels);
         add(&mut spectra, labels, &[], &q.collect::<Vec<f32>>(), count);

@@ -2,9 +2,9 @@
 
 use super::file::{describe, until, Recording};
 use crate::cases::Random;
-use crate::fdr::draws::{self, Rows};
+use crate::fdr::draws::{self, SlotRows};
 use crate::fdr::picked::{Function, Sage};
-use crate::fdr::reading::CompetitionTable;
+use crate::fdr::reading::PlainTable;
 use crate::kde::reading::both_zeros_from;
 use host::Names;
 use sage_core::ml::kde::Parts;
@@ -39,8 +39,8 @@ both signs: Rust leaves open which one is kept.
 /// A list of rows, with the number of its slots and its table.
 struct List {
     slots: usize,
-    rows: Rows,
-    table: CompetitionTable,
+    rows: SlotRows,
+    table: PlainTable,
 }
 
 /// Records lists of either function.
@@ -59,13 +59,13 @@ pub fn record(folder: &Path) -> Result<()> {
 /// A random list: at its turn one of many rows, otherwise one of few.
 fn drawn(random: &mut Random, turn: usize) -> List {
     let many = turn % MANY_EACH == 0;
-    let fits = |(slots, rows): &(usize, Rows)| match many {
+    let fits = |(slots, rows): &(usize, SlotRows)| match many {
         true => *slots >= 95 && rows.slots.len() <= MANY_ROWS,
         false => rows.slots.len() <= FEW_ROWS,
     };
-    let short = |list: &(usize, Rows)| list.0 <= MOST_SLOTS && fits(list);
+    let short = |list: &(usize, SlotRows)| list.0 <= MOST_SLOTS && fits(list);
     let (slots, rows) = until(|| draws::distinct_rows(random), short);
-    let mut table = CompetitionTable::fresh(slots);
+    let mut table = PlainTable::fresh(slots);
     table.add(rows.all());
     List { slots, rows, table }
 }

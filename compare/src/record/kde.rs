@@ -47,7 +47,7 @@ fn drawn(random: &mut Random) -> Case {
     let scores = until(|| draws::scores(random, &labels), |scores| both_zeros_from(scores).is_none());
     let bins = match random.below(2) {
         0 => 1 + random.below(MOST_BINS as u64) as usize,
-        _ => until(|| draws::bin_number(random), |bins| *bins <= MOST_BINS),
+        _ => until(|| draws::bin_count(random), |bins| *bins <= MOST_BINS),
     };
     Case { monotonic: random.below(2) == 0, bins, scores, labels, widths: draws::widths(random) }
 }

@@ -54,8 +54,8 @@ impl SageRun {
     pub fn ties(&self, rows: &[SampleRow]) -> usize {
         let mut best = HashMap::new();
         for feature in &self.features {
-            if let Some(key) = rows[feature.peptide_idx.0 as usize].key() {
-                best.entry((key, feature.label == -1)).or_insert(feature.discriminant_score);
+            if let Some(name) = rows[feature.peptide_idx.0 as usize].protein_name() {
+                best.entry((name, feature.label == -1)).or_insert(feature.discriminant_score);
             }
         }
         let mut scores: Vec<f32> = best.into_values().collect();

@@ -129,8 +129,8 @@ impl SampleRow {
         }
     }
 
-    /// What the row's protein competes under.
-    pub fn key(&self) -> Option<&[u8]> {
+    /// The name under which the row's protein competes.
+    pub fn protein_name(&self) -> Option<&[u8]> {
         match self.proteins.as_slice() {
             [protein] => Some(protein.as_bytes()),
             _ => None,

@@ -13,21 +13,21 @@ use kde::Tolerance;
 // Step one: `min_score` and `score_step` get the estimator's numbers, and `bin_scores` the score of every bin.
 #[no_mangle]
 pub extern "C" fn vayemuku_bin_scores(
-    bins: usize,
+    bin_count: usize,
     scores: &[f64],
     bin_scores: &mut [f64],
     min_score: &mut f64,
     score_step: &mut f64,
 ) -> u32
     ensures { λ r.
-        let run = binScoresOf (builderOf 1 bins) (now (scores .entry)) (now («bin_scores» .entry)) in
+        let run = binScoresOf (builderOf 1 «bin_count») (now (scores .entry)) (now («bin_scores» .entry)) in
         let built = builtEstimator (run .answer) in
         ⌜ r and now («bin_scores» .exit) and now («min_score» .exit) and now («score_step» .exit)
         ≡ builtNumber (run .answer) and run .binScores and built .«min_score» and built .«score_step» ⌝ }
 {
     let builder = Builder {
         monotonic: true,
-        bins,
+        bins: bin_count,
     };
     let answer = kde::bin_scores(builder, scores, bin_scores);
     let estimator = kde::built_estimator(answer);
@@ -40,7 +40,7 @@ pub extern "C" fn vayemuku_bin_scores(
 #[no_mangle]
 pub extern "C" fn vayemuku_posterior_bins(
     monotonic: u32,
-    count: usize,
+    bin_count: usize,
     labels: &[i32],
     decoy_density: &[f64],
     target_density: &[f64],
@@ -49,12 +49,13 @@ pub extern "C" fn vayemuku_posterior_bins(
     ensures { λ r.
         let decoy = now («decoy_density» .entry) in
         let target = now («target_density» .entry) in
-        let run = labelBins (builderOf monotonic count) (now (labels .entry)) decoy target (now (bins .entry)) in
+        let before = now (bins .entry) in
+        let run = labelBins (builderOf monotonic «bin_count») (now (labels .entry)) decoy target before in
         ⌜ r and now (bins .exit) ≡ outcomeNumber (run .answer) and run .column ⌝ }
 {
     let builder = Builder {
         monotonic: monotonic != 0,
-        bins: count,
+        bins: bin_count,
     };
     columns::outcome_number(kde::posterior_bins(
         builder,
@@ -69,7 +70,7 @@ pub extern "C" fn vayemuku_posterior_bins(
 #[no_mangle]
 pub extern "C" fn vayemuku_slot_posterior_bins(
     monotonic: u32,
-    count: usize,
+    bin_count: usize,
     is_decoy: &[u32],
     decoy_density: &[f64],
     target_density: &[f64],
@@ -78,12 +79,13 @@ pub extern "C" fn vayemuku_slot_posterior_bins(
     ensures { λ r.
         let decoy = now («decoy_density» .entry) in
         let target = now («target_density» .entry) in
-        let run = slotBins (builderOf monotonic count) (now («is_decoy» .entry)) decoy target (now (bins .entry)) in
+        let before = now (bins .entry) in
+        let run = slotBins (builderOf monotonic «bin_count») (now («is_decoy» .entry)) decoy target before in
         ⌜ r and now (bins .exit) ≡ outcomeNumber (run .answer) and run .column ⌝ }
 {
     let builder = Builder {
         monotonic: monotonic != 0,
-        bins: count,
+        bins: bin_count,
     };
     columns::outcome_number(kde::slot_posterior_bins(
         builder,

@@ -45,7 +45,7 @@ pub struct EstimatorRef<'a> {
 
 /// The columns that a ranking call writes: two working columns, which hold 0 afterwards, and the q-values.
 #[derive(Debug)]
-pub struct Ranking<'a> {
+pub struct RankingColumns<'a> {
     /// A working column.
     pub keys: &'a mut [u64],
     /// Another, of the same length.
@@ -54,9 +54,9 @@ pub struct Ranking<'a> {
     pub q: &'a mut [f32],
 }
 
-/// What a line check writes.
+/// The numbers that a line check writes.
 #[derive(Clone, Copy, Debug, Default, PartialEq, Eq)]
-pub struct Checked {
+pub struct LineNumbers {
     /// 1 where the line is right, otherwise 0.
     pub right: u32,
     /// The row.
@@ -112,7 +112,7 @@ pub fn score_rows(coefficients: &[f64; 20], features: &[f64], scores: &mut [f64]
 
 /// Module 4: the least score, the step, and the score of every bin.
 pub fn bin_scores(
-    bins: usize,
+    bin_count: usize,
     scores: &[f64],
     bin_scores: &mut [f64],
     min_score: &mut f64,
@@ -121,7 +121,7 @@ pub fn bin_scores(
     // SAFETY: each length is that of its slice.
     unsafe {
         named::vayemuku_bin_scores(
-            bins,
+            bin_count,
             scores.as_ptr(),
             scores.len(),
             bin_scores.as_mut_ptr(),
@@ -135,7 +135,7 @@ pub fn bin_scores(
 /// Module 4: the bins of an estimator, from labels and two densities; they never rise unless `monotonic` is 0.
 pub fn posterior_bins(
     monotonic: u32,
-    count: usize,
+    bin_count: usize,
     labels: &[i32],
     decoy_density: &[f64],
     target_density: &[f64],
@@ -145,7 +145,7 @@ pub fn posterior_bins(
     unsafe {
         named::vayemuku_posterior_bins(
             monotonic,
-            count,
+            bin_count,
             labels.as_ptr(),
             labels.len(),
             decoy_density.as_ptr(),
@@ -161,7 +161,7 @@ pub fn posterior_bins(
 /// Module 4: the bins of an estimator, from a competition's slots and two densities, as [`posterior_bins`].
 pub fn slot_posterior_bins(
     monotonic: u32,
-    count: usize,
+    bin_count: usize,
     is_decoy: &[u32],
     decoy_density: &[f64],
     target_density: &[f64],
@@ -171,7 +171,7 @@ pub fn slot_posterior_bins(
     unsafe {
         named::vayemuku_slot_posterior_bins(
             monotonic,
-            count,
+            bin_count,
             is_decoy.as_ptr(),
             is_decoy.len(),
             decoy_density.as_ptr(),
@@ -289,7 +289,7 @@ pub fn assign_q_value(
     table: TableRef,
     slots: &[u32],
     labels: &[i32],
-    ranking: Ranking,
+    ranking: RankingColumns,
     count: &mut usize,
 ) -> Returned {
     // SAFETY: each length is that of its slice.
@@ -330,7 +330,7 @@ pub fn spectrum_q_value(labels: &[i32], q: &mut [f32], count: &mut usize) -> Ret
 }
 
 /// Module 6: the q-values of precursors.
-pub fn picked_precursor(labels: &[i32], scores: &[f64], ranking: Ranking, count: &mut usize) -> Returned {
+pub fn picked_precursor(labels: &[i32], scores: &[f64], ranking: RankingColumns, count: &mut usize) -> Returned {
     // SAFETY: each length is that of its slice.
     unsafe {
         named::vayemuku_picked_precursor(
@@ -373,15 +373,15 @@ pub fn rank_keys(keys: &mut [u64], spare: &mut [u64]) -> Returned {
 }
 
 /// Module 7: whether a line is right at one in 100.
-pub fn check_line_100(labels: &[i32], line: usize, checked: &mut Checked) -> Returned {
-    let Checked { right, row, decoys_plus_one, targets } = checked;
+pub fn check_line_100(labels: &[i32], line: usize, numbers: &mut LineNumbers) -> Returned {
+    let LineNumbers { right, row, decoys_plus_one, targets } = numbers;
     // SAFETY: the length is that of the slice.
     unsafe { named::vayemuku_check_line_100(labels.as_ptr(), labels.len(), line, right, row, decoys_plus_one, targets) }
 }
 
 /// Module 7: whether a line is right at one in 20.
-pub fn check_line_20(labels: &[i32], line: usize, checked: &mut Checked) -> Returned {
-    let Checked { right, row, decoys_plus_one, targets } = checked;
+pub fn check_line_20(labels: &[i32], line: usize, numbers: &mut LineNumbers) -> Returned {
+    let LineNumbers { right, row, decoys_plus_one, targets } = numbers;
     // SAFETY: the length is that of the slice.
     unsafe { named::vayemuku_check_line_20(labels.as_ptr(), labels.len(), line, right, row, decoys_plus_one, targets) }
 }

@@ -55,6 +55,12 @@ impl Display for Call {
     }
 }
 
+/// Module 4: the number of bins that sage's builder starts with.
+pub const VAYEMUKU_BINS: usize = 1000;
+
+/// Module 5: the slot of a row that takes no part.
+pub const VAYEMUKU_NO_PART: u32 = 4_294_967_295;
+
 // module 1, and the calls of modules 3 and 4 that cannot refuse
 unsafe extern "C" {
     /// Rust's `x as f32`: the nearest f32, ties to even.
@@ -125,7 +131,7 @@ refusing_calls! {
 
     /// Module 4: the least score, the step, and the score of every bin.
     BinScores: fn vayemuku_bin_scores(
-        bins: usize,
+        bin_count: usize,
         scores: *const f64,
         scores_len: usize,
         bin_scores: *mut f64,
@@ -137,7 +143,7 @@ refusing_calls! {
     /// Module 4: the bins of an estimator, from labels and two densities.
     PosteriorBins: fn vayemuku_posterior_bins(
         monotonic: u32,
-        count: usize,
+        bin_count: usize,
         labels: *const i32,
         labels_len: usize,
         decoy_density: *const f64,
@@ -151,7 +157,7 @@ refusing_calls! {
     /// Module 4: the bins of an estimator, from a competition's slots and two densities.
     SlotPosteriorBins: fn vayemuku_slot_posterior_bins(
         monotonic: u32,
-        count: usize,
+        bin_count: usize,
         is_decoy: *const u32,
         is_decoy_len: usize,
         decoy_density: *const f64,

@@ -1,4 +1,4 @@
-//! The calls are declared here as include/vayemuku.h declares them.
+//! The calls and constants are declared here as include/vayemuku.h declares them.
 
 use std::collections::BTreeMap;
 use vayemuku_sys::Call;
@@ -6,11 +6,13 @@ use vayemuku_sys::Call;
 /// The types of a call's parameters, in order, and of what it returns.
 type Types = (Vec<String>, String);
 
+/// The text of the header.
+const HEADER: &str = include_str!("../../../include/vayemuku.h");
+
 /// The header without comments and lines of the preprocessor.
 fn header() -> String {
-    let text = include_str!("../../../include/vayemuku.h");
     let mut bare = String::new();
-    for part in text.split("/*") {
+    for part in HEADER.split("/*") {
         bare.push_str(part.split_once("*/").map_or(part, |(_, after)| after));
     }
     bare.lines().filter(|line| !line.starts_with('#')).collect::<Vec<_>>().join(" ")
@@ -69,6 +71,40 @@ fn of_declared() -> BTreeMap<String, Types> {
         calls.insert(format!("vayemuku_{name}"), (types, returned.to_string()));
     }
     calls
+}
+
+/// The constants of the header, with their values.
+fn constants_of_header() -> BTreeMap<String, u64> {
+    let mut constants = BTreeMap::new();
+    for defined in HEADER.lines().filter_map(|line| line.strip_prefix("#define ")) {
+        match defined.split_whitespace().collect::<Vec<_>>()[..] {
+            // the include guard has no value
+            ["VAYEMUKU_H"] => {}
+            [name, value] => {
+                constants.insert(name.to_string(), value.trim_end_matches('u').parse().unwrap());
+            }
+            _ => panic!("{defined}"),
+        }
+    }
+    constants
+}
+
+/// The constants of declared.rs, with their values.
+fn constants_of_declared() -> BTreeMap<String, u64> {
+    let mut constants = BTreeMap::new();
+    for declared in include_str!("../src/declared.rs").split("pub const VAYEMUKU_").skip(1) {
+        let (name, rest) = declared.split_once(": ").unwrap();
+        let value = rest.split_once(" = ").unwrap().1.split_once(';').unwrap().0;
+        constants.insert(format!("VAYEMUKU_{name}"), value.replace('_', "").parse().unwrap());
+    }
+    constants
+}
+
+#[test]
+fn constants_are_the_headers() {
+    let header = constants_of_header();
+    assert!(header.len() >= 2, "{}", header.len());
+    assert_eq!(constants_of_declared(), header);
 }
 
 #[test]

@@ -67,12 +67,14 @@ pub fn number<T: Cell>(column: &str, cell: &[u8]) -> Result<T, String> {
     read.ok_or_else(|| format!("column {column}: '{}' is {}", shown(cell), T::NONE))
 }
 
+/// The most characters of a cell that a message shows.
+const MOST_SHOWN: usize = 40;
+
 /// The start of a cell, on one line.
 pub fn shown(cell: &[u8]) -> impl Display {
-    const LONGEST: usize = 40;
     let text = String::from_utf8_lossy(cell);
-    let start: String = text.chars().take(LONGEST).flat_map(char::escape_debug).collect();
-    match text.chars().count() > LONGEST {
+    let start: String = text.chars().take(MOST_SHOWN).flat_map(char::escape_debug).collect();
+    match text.chars().count() > MOST_SHOWN {
         true => format!("{start}…"),
         false => start,
     }

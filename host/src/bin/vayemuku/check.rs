@@ -4,7 +4,7 @@ use crate::arguments::Check;
 use crate::cells::{number, Label};
 use crate::problem::{say, Problem};
 use crate::results_table::{place, ResultsTable};
-use vayemuku::{check_line, order, spectrum_q_value, Line, QValues};
+use vayemuku::{check_line, precursor_order, spectrum_q_value, Line, QValues};
 
 /// The columns of a list that are read.
 struct Columns {
@@ -17,7 +17,7 @@ struct Columns {
 pub fn run(job: &Check) -> Result<bool, Problem> {
     let table = ResultsTable::read(&job.list)?;
     let columns = read(&table)?;
-    let order = order(&columns.scores).map_err(|refused| Problem::refused(table.name(), refused))?;
+    let order = precursor_order(&columns.scores).map_err(|refused| Problem::refused(table.name(), refused))?;
     let labels: Vec<i32> = order.iter().map(|&row| columns.labels[row]).collect();
     let line = answer(job, &table, &labels)?;
     let q = spectrum_q_value(&labels).map_err(|refused| Problem::refused(table.name(), refused))?;
@@ -58,7 +58,8 @@ fn read(table: &ResultsTable) -> Result<Columns, Problem> {
 /// Whether the rows are in the order of their ranks, in words.
 fn in_order(order: &[usize]) -> String {
     match order.iter().enumerate().find(|(rank, row)| rank != *row) {
-        None => "which stand as ranked".to_string(),
+        None => "in ranked order".to_string(),
+        Some((0, &row)) => format!("of which {} is ranked first", place(row + 1)),
         Some((rank, &row)) => format!("of which {} is ranked as {}", place(row + 1), rank + 1),
     }
 }
@@ -69,7 +70,7 @@ fn wrong_q_values(order: &[usize], columns: &Columns, counted: &QValues) -> Opti
     let mut wrong = order.iter().copied().enumerate().filter(differs);
     let (rank, row) = wrong.next()?;
     Some(format!(
-        "{} of {} are not what the counting rule gives, the first as ranked in {}: {:?}, and it gives {:?}",
+        "wrong in {} of {} rows; the first by rank, {}, has {:?} in place of {:?}",
         1 + wrong.count(),
         order.len(),
         place(row + 1),

@@ -37,7 +37,7 @@ impl Problem {
     /// The lines on standard error.
     fn lines(self) -> Vec<String> {
         match self {
-            Problem::Usage(why) => vec![format!("{why}; `vayemuku help` tells more")],
+            Problem::Usage(why) => vec![format!("{why}; see `vayemuku help`")],
             Problem::File(why) => vec![why],
             Problem::Unwritten(lines) | Problem::Refused(lines) => lines,
         }

@@ -1,4 +1,4 @@
-//! The keys of proteins, by which targets and decoys compete.
+//! The names of proteins, under which targets and decoys compete.
 
 use crate::cells::shown;
 use vayemuku::Names;
@@ -21,8 +21,14 @@ impl Decoys {
         }
     }
 
-    /// The key under which a row's protein competes; None where several proteins share the row, or there is none.
-    pub fn key<'a>(&self, label: i32, proteins: &'a [u8], num_proteins: u32) -> Result<Option<&'a [u8]>, String> {
+    /// The name under which a row's protein competes: that of the target. None where several proteins share the row, or
+    /// there is none.
+    pub fn protein_name<'a>(
+        &self,
+        label: i32,
+        proteins: &'a [u8],
+        num_proteins: u32,
+    ) -> Result<Option<&'a [u8]>, String> {
         if num_proteins != 1 {
             return Ok(None);
         }
@@ -30,7 +36,7 @@ impl Decoys {
             return Ok(Some(proteins));
         };
         match (label == -1, proteins.strip_prefix(tag.as_bytes())) {
-            (true, Some(key)) => Ok(Some(key)),
+            (true, Some(name)) => Ok(Some(name)),
             (true, None) => Err(format!(
                 "column proteins: '{}' is a decoy by its label, but does not begin with {tag}: see --decoy-tag and \
                  --fasta-decoys",
@@ -51,17 +57,17 @@ mod tests {
     #[test]
     fn generated_decoys_compete_with_their_targets() {
         let decoys = Decoys::Generated { tag: "rev_".into() };
-        assert_eq!(decoys.key(1, b"P1", 1), Ok(Some(&b"P1"[..])));
-        assert_eq!(decoys.key(-1, b"rev_P1", 1), Ok(Some(&b"P1"[..])));
-        assert_eq!(decoys.key(-1, b"rev_P1;rev_P2", 2), Ok(None));
-        assert!(decoys.key(-1, b"P1", 1).is_err());
-        assert!(decoys.key(0, b"rev_P1", 1).is_err());
+        assert_eq!(decoys.protein_name(1, b"P1", 1), Ok(Some(&b"P1"[..])));
+        assert_eq!(decoys.protein_name(-1, b"rev_P1", 1), Ok(Some(&b"P1"[..])));
+        assert_eq!(decoys.protein_name(-1, b"rev_P1;rev_P2", 2), Ok(None));
+        assert!(decoys.protein_name(-1, b"P1", 1).is_err());
+        assert!(decoys.protein_name(0, b"rev_P1", 1).is_err());
     }
 
     #[test]
     fn decoys_of_a_fasta_file_have_slots_of_their_own() {
-        assert_eq!(Decoys::Fasta.key(1, b"P1", 1), Ok(Some(&b"P1"[..])));
-        assert_eq!(Decoys::Fasta.key(-1, b"rev_P1", 1), Ok(Some(&b"rev_P1"[..])));
-        assert_eq!(Decoys::Fasta.key(-1, b"", 0), Ok(None));
+        assert_eq!(Decoys::Fasta.protein_name(1, b"P1", 1), Ok(Some(&b"P1"[..])));
+        assert_eq!(Decoys::Fasta.protein_name(-1, b"rev_P1", 1), Ok(Some(&b"rev_P1"[..])));
+        assert_eq!(Decoys::Fasta.protein_name(-1, b"", 0), Ok(None));
     }
 }

@@ -35,10 +35,10 @@ const COLUMNS: [&str; 24] = [
     "num_proteins",
 ];
 
-/// The rows of a table, and the key under which each row's protein competes.
+/// The rows of a table, and the name under which each row's protein competes.
 pub struct Psms<'a> {
     pub rows: Vec<Psm>,
-    pub keys: Vec<Option<&'a [u8]>>,
+    pub protein_names: Vec<Option<&'a [u8]>>,
 }
 
 /// Reads all rows.
@@ -48,15 +48,15 @@ pub fn read<'a>(table: &'a ResultsTable, decoys: &Decoys, progress: &mut Progres
         *place = table.column(name)?;
     }
     let count = table.rows();
-    let mut psms = Psms { rows: Vec::with_capacity(count), keys: Vec::with_capacity(count) };
+    let mut psms = Psms { rows: Vec::with_capacity(count), protein_names: Vec::with_capacity(count) };
     let mut cells = Vec::new();
     for row in 1..=count {
         progress.show("rows read", row, count);
         table.cells(row, &mut cells)?;
         let cells = Cells { cells: &cells, places: &places };
-        let (psm, key) = cells.psm(decoys).map_err(|why| table.problem(row, why))?;
+        let (psm, name) = cells.psm(decoys).map_err(|why| table.problem(row, why))?;
         psms.rows.push(psm);
-        psms.keys.push(key);
+        psms.protein_names.push(name);
     }
     Ok(psms)
 }
@@ -79,7 +79,7 @@ impl<'a> Cells<'a, '_> {
         number(column, self.cell(column))
     }
 
-    /// The row, and the key under which its protein competes.
+    /// The row, and the name under which its protein competes.
     fn psm(&self, decoys: &Decoys) -> Result<(Psm, Option<&'a [u8]>), String> {
         let Label(label) = self.number("label")?;
         let psm = Psm {
@@ -106,8 +106,8 @@ impl<'a> Cells<'a, '_> {
             matched_intensity_pct: self.number("matched_intensity_pct")?,
             poisson: self.number("poisson")?,
         };
-        let key = decoys.key(label, self.cell("proteins"), self.number("num_proteins")?)?;
-        Ok((psm, key))
+        let name = decoys.protein_name(label, self.cell("proteins"), self.number("num_proteins")?)?;
+        Ok((psm, name))
     }
 }
 
@@ -146,6 +146,6 @@ mod tests {
             matched_intensity_pct: 21.0,
             poisson: 22.0,
         };
-        assert_eq!((psms.rows, psms.keys), (vec![wanted], vec![Some(&b"23"[..])]));
+        assert_eq!((psms.rows, psms.protein_names), (vec![wanted], vec![Some(&b"23"[..])]));
     }
 }

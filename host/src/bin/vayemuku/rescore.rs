@@ -24,7 +24,7 @@ pub fn run(job: &Rescore) -> Result<bool, Problem> {
     let psms = psms::read(&table, &job.decoys, &mut progress)?;
     let answer = {
         let mut densities = WithProgress { progress: &mut progress };
-        rescore(&psms.rows, &psms.keys, job.decoys.names(), job.tolerance, &mut densities)
+        rescore(&psms.rows, &psms.protein_names, job.decoys.names(), job.tolerance, &mut densities)
     };
     let written = write(job, &table, answer.as_ref().ok(), &mut progress);
     progress.finish();

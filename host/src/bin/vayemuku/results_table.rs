@@ -1,5 +1,5 @@
-//! sage's results table, or a list: a line with the names of the columns, then rows of as many cells, separated by
-//! tabs.
+//! sage's results table, or a list: a line with the names of the columns, then rows with one cell per column,
+//! separated by tabs.
 
 use crate::cells::shown;
 use crate::problem::Problem;
@@ -103,7 +103,7 @@ impl ResultsTable {
         place.ok_or_else(|| self.problem(0, format!("column {name} is missing")))
     }
 
-    /// Puts the cells of a row, from 1, into `cells`, which then has as many as the header.
+    /// Puts the cells of a row, from 1, into `cells`, which then has one per column.
     pub fn cells<'a>(&'a self, row: usize, cells: &mut Vec<&'a [u8]>) -> Result<(), Problem> {
         self.check_text(row)?;
         cells.clear();
