@@ -25,7 +25,7 @@ use Rattle.competition.specs.Batches.{Batch, appended, noPart, allAllowe
 use Rattle.competition.specs.Winners.{slotSeen, decoyFlag, winnersRun, winnersAsked, winners}
 use Rattle.competition.specs.Inner.Ready.{BatchReady}
 use Rattle.competition.proofs.Questions.{batch-ready, batch-accepted}
-use Rattle.competition.proofs.Rows.{SameLengths, same-lengths-refl}
+use Rattle.competition.proofs.RowSteps.{SameLengths, same-lengths-refl}
 use Rattle.competition.proofs.Calls.{run-of-accepted, all-allowed-joined, after-call, batch-lengths, asked-by-lengths, KeepsSeen, keeps-refl, batch-keeps, unseen-winners}
 
 -- ---- batch after batch

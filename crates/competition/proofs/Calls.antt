@@ -17,7 +17,7 @@ use Rattle.competition.specs.Tables.{Table, isSeen, tableRun}
 use Rattle.competition.specs.Batches.{Batch, noPart, allowed, allAllowed, raiseForward, raiseReverse, withRow, added, batchAsked, addRows}
 use Rattle.competition.specs.Winners.{slotSeen, winner, decoyFlag, winnersRun, winnersAsked, winners}
 use Rattle.competition.proofs.Questions.{winners-ready}
-use Rattle.competition.proofs.Rows.{same-lengths-refl, SameLengths, same-lengths-trans, row-lengths}
+use Rattle.competition.proofs.RowSteps.{same-lengths-refl, SameLengths, same-lengths-trans, row-lengths}
 
 -- ---- an accepted batch
 

@@ -36,9 +36,9 @@ unfolding round ofBits
 ten-is = refl
 
 -- f64::MIN is −(2^1024 − 2^971)
-pub minimum-is : f64Min ≡ round binary64 true (2 ^ 1024 - 2 ^ 971) 1
+pub f64-min-is : f64Min ≡ round binary64 true (2 ^ 1024 - 2 ^ 971) 1
 unfolding round ofBits neg
-minimum-is = refl
+f64-min-is = refl
 
 -- ---- the tries
 

@@ -18,7 +18,7 @@ use Rattle.floats.specs.MinMax.{minNumber}
 use Rattle.floats.specs.Ratio.{oneIn}
 use Rattle.counting.specs.Labels.{isDecoy, decoys, targets}
 use Rattle.counting.specs.QValues.{ratio, ratioAt, ratios, minimum, qValues, targetsAtMost}
-use Rattle.counting.proofs.Labels.{both, decoys-next, targets-next}
+use Rattle.counting.proofs.Labels.{decoys-and-targets, decoys-next, targets-next}
 use Rattle.counting.proofs.RunningMinimum.{running-minimum-at}
 use Rattle.counting.proofs.QValues.{length-ratios, ratios-at, q-length}
 use Rattle.ranking.specs.Inner.Layout.{placeOf, decoyBit, labelOf}
@@ -45,26 +45,26 @@ module _ (keys : List ℕ) where
       ∙ rw (List·getD-map labelOf keys i 0, bit-target (getD keys i 0))
 
   pub all-counts : decoys labels + targets labels ≡ length keys
-  all-counts = both labels ∙ length-labels
+  all-counts = decoys-and-targets labels ∙ length-labels
 
 -- ---- the count of decoys, from the first row down
 
-pub record Counting (keys : List ℕ) (i decoy : ℕ) : Type 0 where
+pub record DecoysCounted (keys : List ℕ) (i decoy : ℕ) : Type 0 where
   pub high : i ≤ length keys
   pub few : decoy ≤ i
   pub is : decoy ≡ decoys (take i (labels keys))
 
-pub counting-start : (keys : List ℕ) → Counting keys 0 0
+pub decoys-counted-start : (keys : List ℕ) → DecoysCounted keys 0 0
 unfolding decoys
-counting-start keys = record { high = zero-le; few = zero-le; is = refl }
+decoys-counted-start keys = record { high = zero-le; few = zero-le; is = refl }
 
-pub counting-step : (keys : List ℕ) {i decoy bit : ℕ} → Counting keys i decoy → i < length keys → bit ≡ decoyBit (getD keys i 0) → Counting keys (i + 1) (decoy + bit)
-counting-step keys {i} {decoy} {bit} w h e =
+pub decoys-counted-step : (keys : List ℕ) {i decoy bit : ℕ} → DecoysCounted keys i decoy → i < length keys → bit ≡ decoyBit (getD keys i 0) → DecoysCounted keys (i + 1) (decoy + bit)
+decoys-counted-step keys {i} {decoy} {bit} w h e =
     let f = w .few in
     record { high = omega arith; few = omega arith; is = omega (arith, w .is, decoys-step keys i h) }
 
-pub counting-done : (keys : List ℕ) {i decoy : ℕ} → Counting keys i decoy → length keys ≤ i → decoy ≡ decoys (labels keys)
-counting-done keys {i} w h = w .is ∙ ap decoys (take-all i (labels keys) (omega (arith, length-labels keys)))
+pub decoys-counted-done : (keys : List ℕ) {i decoy : ℕ} → DecoysCounted keys i decoy → length keys ≤ i → decoy ≡ decoys (labels keys)
+decoys-counted-done keys {i} w h = w .is ∙ ap decoys (take-all i (labels keys) (omega (arith, length-labels keys)))
 
 -- ---- the q-values, from the last row up
 

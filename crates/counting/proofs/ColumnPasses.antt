@@ -103,10 +103,10 @@ minimum-walk-done {c} {rs} {q} {low} {passing} {i} w h =
     (subst (λ (n : ℕ). passing ≡ atMost c (runningMinimum (drop n rs))) z (w .passing-is), subst (λ (n : ℕ). drop n q ≡ runningMinimum (drop n rs)) z (w .back))
 
 -- no more than the column has places
-at-most-within : (c : Float) (qs : List Float) → atMost c qs ≤ length qs
+at-most-length : (c : Float) (qs : List Float) → atMost c qs ≤ length qs
 unfolding atMost
-at-most-within c [] = zero-le
-at-most-within c (q ∷ qs) = go (le q c) (at-most-within c qs)
+at-most-length c [] = zero-le
+at-most-length c (q ∷ qs) = go (le q c) (at-most-length c qs)
   where
     go : (b : Bool) {n : ℕ} → n ≤ length qs → cond b (suc n) n ≤ suc (length qs)
     go true h = omega arith
@@ -115,4 +115,4 @@ at-most-within c (q ∷ qs) = go (le q c) (at-most-within c qs)
 pub minimum-walk-bound : {c : Float} {rs q : List Float} {low : Float} {passing i : ℕ} → MinimumWalk c rs q low passing i → passing + i ≤ length rs
 minimum-walk-bound {c} {rs} {q} {low} {passing} {i} w =
     let h = w .high in
-    omega (arith, w .passing-is, at-most-within c (runningMinimum (drop i rs)), length-running-minimum (drop i rs), length-drop i rs)
+    omega (arith, w .passing-is, at-most-length c (runningMinimum (drop i rs)), length-running-minimum (drop i rs), length-drop i rs)
