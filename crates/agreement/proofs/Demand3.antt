@@ -3,29 +3,24 @@
 -- where they accept.
 use mathlib.Core.Path.{_≡_, refl, sym, ap, ap₂, _∙_, subst}
 use mathlib.Core.Logic.{inl, inr}
-use mathlib.Core.List.{List, [], _∷_, map}
-use mathlib.Core.Bool.{Bool, true, false, cond, _&&_}
+use mathlib.Core.List.{List, [], _∷_}
+use mathlib.Core.Bool.{Bool, true, false, cond}
 use Prim.Native.Nat.{ℕ, zero, suc, _≤_, _<_, max}
-use native.Mathlib.Nat.{zero-lt-suc, zero-add}
+use native.Mathlib.Nat.{zero-lt-suc}
 use native.Mathlib.Numerals.{add-one}
 use native.Mathlib.Omega.{arith}
-use borrow.Author.Tests.{leb-true, eqb-true}
-use lib.Dec.{leb, eqb, leb·zero, leb·suc-suc, leb·suc-zero}
+use lib.Dec.{leb, leb·zero, leb·suc-suc, leb·suc-zero}
 use lib.IntN.{ℤ}
-use lib.ListN.{length, getD, take, length-map}
-use lib.Ieee.{Float, nan, binary32, le}
-use Rattle.folds.specs.Lists.{filled, tabulated}
-use Rattle.folds.proofs.Tests.{both}
+use lib.ListN.{length, getD, take}
+use lib.Ieee.{Float, nan, le}
+use Rattle.folds.specs.Lists.{filled}
 use Rattle.folds.proofs.Writing.{tabulated-at}
 use Rattle.columns.specs.Refusals.{longest, answered}
 use Rattle.columns.specs.declared.Outcome.{Outcome}
 use Rattle.columns.specs.declared.Outcome.the-variants as outcome
 use Rattle.columns.specs.declared.Outcome.the-variants.{Accepted}
 use Rattle.columns.proofs.Questions.{if-accepted}
-use Rattle.columns.specs.declared.Counted.{Counted}
 use Rattle.columns.specs.declared.Counted.the-variants.{Passing, Refused}
-use Rattle.columns.specs.declared.Refusal.the-variants.{TooLong, WrongLength}
-use Rattle.floats.specs.Convert.{converted}
 use Rattle.floats.specs.Ratio.{oneIn}
 use Rattle.floats.proofs.Ratio.{sharp-100, sharp-20}
 use Rattle.counting.specs.Labels.{isDecoy, targets}
@@ -35,8 +30,7 @@ use Rattle.counting.proofs.Lines.{last-in-list, right-line, right-line-only}
 use Rattle.counting.proofs.QValues.{q-length, q-at-most, count-is-line}
 use Rattle.qvalue.specs.Spectrum.{SpectrumRun, spectrumRun, spectrumAsked, spectrumQValue}
 use Rattle.qvalue.proofs.Questions.{spectrum-lengths}
-use Rattle.line_check.specs.Check.{perOf, countsAt, lineAnswer}
-use Rattle.line_check.specs.declared.Line.the-variants.{Wrong}
+use Rattle.line_check.specs.Check.{perOf}
 use Rattle.line_check.proofs.Check.{wrong-row, right-answered, wrong-answered}
 use Rattle.ranking.specs.Ranking.{rankedRows, asRanked, rankOf}
 use Rattle.ranking.proofs.Places.{length-as-ranked, rank-below}

@@ -8,7 +8,7 @@ use native.Mathlib.Omega.{arith}
 use borrow.Author.Tests.{lt-ltb, le-ltb}
 use lib.Dec.{T, eqb, eqb→eq, ltb→lt, lt→ltb}
 use lib.IntN.{ℤ, pos}
-use lib.Ieee.{Float, nan, inf, fin, Format, binary32, binary64, up, down, unlike, level, round, sum, add, sub, neg, mul, lt, eq, fits}
+use lib.Ieee.{Float, nan, inf, fin, Format, binary32, binary64, up, down, unlike, level, round, ofInt, sum, add, sub, neg, mul, lt, eq, fits}
 use lib.Ieee.Fits.{up-pos, down-pos, and-i, and-l, and-r, eq→eqb}
 use lib.Ieee.Scale.{round-same, finite}
 use Rattle.folds.proofs.Tests.{or-r}
@@ -139,6 +139,14 @@ module _ (f : Format) where
   sub-level (fin s m e) (inf t) p h = absurd h
   sub-level (fin s m e) (fin t n d) p h =
       sum-level s t (m * up e * down d) (n * up d * down e) (down d * down e) (mul-pos (down-pos d) (down-pos e)) h
+
+-- 0, converted, times a positive number
+pub zero-mul-positive : (x : Float) → T (lt plusZero x) → T (finite x) → mul binary64 (ofInt binary64 (pos 0)) x ≡ plusZero
+unfolding ofInt lt
+zero-mul-positive nan p q = absurd p
+zero-mul-positive (inf s) p q = absurd q
+zero-mul-positive (fin true n d) p q = absurd p
+zero-mul-positive (fin false n d) p q = plus-zero-mul binary64 false n d
 
 -- ---- −0 and +0 compare alike
 

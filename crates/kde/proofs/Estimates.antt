@@ -17,7 +17,7 @@ use lib.Ieee.Back.{round-whole}
 use Rattle.folds.proofs.Tests.{or-split}
 use Rattle.floats.specs.Signs.{negative}
 use Rattle.floats.proofs.Nans.{add-nan, sub-nan, mul-nan, div-nan, nan-sub, nan-div}
-use Rattle.floats.proofs.Zeros.{plusZero, minusZero, plus-zero-add, add-plus-zero, add-minus-zero, plus-zero-mul, mul-plus-zero}
+use Rattle.floats.proofs.Zeros.{plusZero, minusZero, plus-zero-add, add-plus-zero, add-minus-zero, plus-zero-mul, mul-plus-zero, zero-mul-positive}
 use Rattle.floats.proofs.Zeros.{sub-self, sub-level, plus-zero-eq, plus-zero-lt, sub-plus-zero-add}
 use Rattle.floats.proofs.Differences.{sub-lt}
 use Rattle.floats.proofs.Infinities.{above, off-below-zero, off-div, off-mul, never-finite, level-div, zero-mul-infinite, add-infinite, infinite-minus}
@@ -125,14 +125,6 @@ step-nan e bins score h = all-nan e bins score (λ bin l. rw (h, div-nan))
 
 -- ---- "A score under the first bin is extrapolated": on the line through the first two bins
 
--- 0 · step
-no-steps : (step : Float) → T (lt plusZero step) → T (finite step) → mul binary64 (ofInt binary64 (pos 0)) step ≡ plusZero
-unfolding ofInt lt
-no-steps nan p q = absurd p
-no-steps (inf s) p q = absurd q
-no-steps (fin true n d) p q = absurd p
-no-steps (fin false n d) p q = plus-zero-mul binary64 false n d
-
 pub under-first : (e : Estimator) (bins : List Float) (score : Float) → T (fits binary64 score) → T (fits binary64 (e .«min_score»))
     → T (lt plusZero (e .«score_step»)) → T (finite (e .«score_step»)) → T (lt score (e .«min_score»))
     → posteriorError e bins score ≡ interpolated (firstBin bins) (secondBin bins) (quotient e score)
@@ -140,7 +132,7 @@ under-first e bins score t u p q h =
     let least = e .«min_score» in
     let step = e .«score_step» in
     first-used e bins score (steps-are e score ∙ under-div 64 binary64 step (off-below-zero (sub binary64 score least) (sub-lt binary64 score least t u h .0)) p)
-    ∙ rw (no-steps step p q, sub-plus-zero-add binary64 score least t u h)
+    ∙ rw (zero-mul-positive step p q, sub-plus-zero-add binary64 score least t u h)
 
 -- ---- "Step +0 gives NaN for a score at or above the least; under it, on finite bins, the same formula gives an
 -- infinity, or NaN where the first two bins are equal or there is one bin."

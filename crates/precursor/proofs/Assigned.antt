@@ -1,16 +1,16 @@
 -- The pass from the last ranked row up: what its counters, its minimum, its count and its column hold when the rows
 -- from i on are done. The counts up to a row fall by that row at each turn, and the ratio at a row is theirs.
 use mathlib.Core.Path.{_≡_, refl, sym, ap, ap₂, _∙_}
-use mathlib.Core.List.{List, [], map}
+use mathlib.Core.List.{List, map}
 use mathlib.Core.Bool.{cond, _&&_}
 use Prim.Native.Nat.{ℕ, suc, _+_, _-_, _≤_, _<_, zero-le}
-use native.Mathlib.Nat.{le-refl}
+use native.Mathlib.Nat.{le-refl, le-of-eq}
 use native.Mathlib.Numerals.{add-one}
 use native.Mathlib.Omega.{arith}
 use lib.Dec.{eqb}
 use lib.IntN.{ℤ, pos}
-use lib.ListN.{length, getD, take, drop, set, length-map, length-set, List·getD-map}
-use lib.Seq.{drop-cons, take-length, take-all, drop-length}
+use lib.ListN.{length, getD, take, drop, set, length-map, length-set, List·getD-map, drop-of-length-le}
+use lib.Seq.{drop-cons, take-length, take-all}
 use lib.Ieee.{Float, nan, binary32, le, ofBits}
 use mir.Val.{boolByte}
 use Rattle.folds.proofs.Tests.{byte-most}
@@ -80,10 +80,6 @@ pub record Assigned (keys : List ℕ) (q₀ : List Float) (i decoy target : ℕ)
   pub count-is : passing ≡ targetsAtMost (oneIn 20) (drop i (labels keys)) (drop i (qValues (labels keys)))
   pub column-is : q ≡ scattered (drop i (map placeOf keys)) (drop i (qValues (labels keys))) q₀
 
--- where a list has as many entries as there are keys, none is left behind them
-none-left : {A : Type 0} (l : List A) (n : ℕ) → length l ≡ n → drop n l ≡ []
-none-left l n e = rw (← e) (drop-length l)
-
 pub assigned-start : (keys : List ℕ) (q₀ : List Float) (decoy : ℕ) → decoy ≡ decoys (labels keys)
     → Assigned keys q₀ (length keys) (decoy + 1) (length keys + 1 - (decoy + 1)) (ofBits binary32 1065353216) 0 q₀
 unfolding minimum targetsAtMost scattered
@@ -100,9 +96,9 @@ assigned-start keys q₀ decoy e =
       counts = omega arith;
       decoys-are = rw (whole, e);
       targets-are = rw whole (omega arith);
-      least-is = rw (none-left (ratios U) n (length-ratios U ∙ l));
-      count-is = rw (none-left U n l);
-      column-is = rw (none-left (map placeOf keys) n (length-map keys placeOf));
+      least-is = rw (drop-of-length-le (ratios U) (le-of-eq (length-ratios U ∙ l)));
+      count-is = rw (drop-of-length-le U (le-of-eq l));
+      column-is = rw (drop-of-length-le (map placeOf keys) (le-of-eq (length-map keys placeOf)));
     }
 
 module _ (keys : List ℕ) (j : ℕ) (h : j < length keys) where
