@@ -60,14 +60,14 @@ module _ (per : ℕ) (labels : List ℤ) (line : ℕ) where
 
   -- ---- accepted
 
-  module _ (short : length labels ≤ longest) (in-list : line ≤ length labels) where
+  module _ (short : length labels ≤ longest) (listed : line ≤ length labels) where
     accepted : lineAnswer per labels line ≡ judgement per labels line
     unfolding lineAnswer
-    accepted = rw (le-leb (length labels) longest short, le-leb line (length labels) in-list)
+    accepted = rw (le-leb (length labels) longest short, le-leb line (length labels) listed)
 
     -- a right line is answered with its own three numbers
     pub right-answered : RightLine per labels line → lineAnswer per labels line ≡ Right (countsAt labels line)
-    right-answered r = accepted ∙ right-judged (right-line-only per labels line r in-list)
+    right-answered r = accepted ∙ right-judged (right-line-only per labels line r listed)
 
     -- any other with those of the last later row that qualifies, or of the line itself
     pub wrong-answered : (RightLine per labels line → ⊥) → lineAnswer per labels line ≡ Wrong (countsAt labels (max line (rightLine per labels)))

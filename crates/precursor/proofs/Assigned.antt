@@ -34,13 +34,13 @@ module _ (keys : List ℕ) where
   length-labels : length labels ≡ length keys
   length-labels = length-map keys labelOf
 
-  pub decoys-step : (i : ℕ) → i < length keys → decoys (take (i + 1) labels) ≡ decoys (take i labels) + decoyBit (getD keys i 0)
-  decoys-step i h =
+  pub decoys-by-key : (i : ℕ) → i < length keys → decoys (take (i + 1) labels) ≡ decoys (take i labels) + decoyBit (getD keys i 0)
+  decoys-by-key i h =
       decoys-next labels i (pos 0) (omega (arith, length-labels))
       ∙ rw (List·getD-map labelOf keys i 0, bit-decoy (getD keys i 0))
 
-  pub targets-step : (i : ℕ) → i < length keys → targets (take (i + 1) labels) ≡ targets (take i labels) + (1 - decoyBit (getD keys i 0))
-  targets-step i h =
+  pub targets-by-key : (i : ℕ) → i < length keys → targets (take (i + 1) labels) ≡ targets (take i labels) + (1 - decoyBit (getD keys i 0))
+  targets-by-key i h =
       targets-next labels i (pos 0) (omega (arith, length-labels))
       ∙ rw (List·getD-map labelOf keys i 0, bit-target (getD keys i 0))
 
@@ -61,7 +61,7 @@ decoys-counted-start keys = record { high = zero-le; few = zero-le; is = refl }
 pub decoys-counted-step : (keys : List ℕ) {i decoy bit : ℕ} → DecoysCounted keys i decoy → i < length keys → bit ≡ decoyBit (getD keys i 0) → DecoysCounted keys (i + 1) (decoy + bit)
 decoys-counted-step keys {i} {decoy} {bit} w h e =
     let f = w .few in
-    record { high = omega arith; few = omega arith; is = omega (arith, w .is, decoys-step keys i h) }
+    record { high = omega arith; few = omega arith; is = omega (arith, w .is, decoys-by-key keys i h) }
 
 pub decoys-counted-done : (keys : List ℕ) {i decoy : ℕ} → DecoysCounted keys i decoy → length keys ≤ i → decoy ≡ decoys (labels keys)
 decoys-counted-done keys {i} w h = w .is ∙ ap decoys (take-all i (labels keys) (omega (arith, length-labels keys)))
@@ -169,9 +169,9 @@ module _ {keys : List ℕ} {q₀ : List Float} {i decoy target : ℕ} {least : F
         high = omega (arith, here);
         same = length-set q place m ∙ w .same;
         few = omega (arith, byte-most (le m c && eqb bit 0), w .few);
-        counts = omega (arith, w .counts, d, t, decoys-step keys j here, targets-step keys j here);
-        decoys-are = omega (arith, decoys-step keys j here);
-        targets-are = omega (arith, targets-step keys j here);
+        counts = omega (arith, w .counts, d, t, decoys-by-key keys j here, targets-by-key keys j here);
+        decoys-are = omega (arith, decoys-by-key keys j here);
+        targets-are = omega (arith, targets-by-key keys j here);
         least-is = low;
         count-is = rw bit-is (pass-one key passing (le m c))
             ∙ ap (λ (x : Float). cond (isDecoy (labelOf key)) passing (cond (le m x) (suc passing) passing)) c-is
@@ -184,7 +184,7 @@ module _ {keys : List ℕ} {q₀ : List Float} {i decoy target : ℕ} {least : F
   pub target-left : 1 - decoyBit key ≤ target
   target-left =
       let t : target ≡ targets (take (j + 1) (labels keys)) = w .targets-are ∙ ap (λ (n : ℕ). targets (take n (labels keys))) e in
-      omega (arith, targets-step keys j here)
+      omega (arith, targets-by-key keys j here)
 
 pub assigned-done : {keys : List ℕ} {q₀ : List Float} {i decoy target : ℕ} {least : Float} {passing : ℕ} {q : List Float}
     → Assigned keys q₀ i decoy target least passing q → i ≡ 0
