@@ -3,53 +3,48 @@
 -- where they accept.
 use mathlib.Core.Path.{_≡_, refl, sym, ap, ap₂, _∙_, subst}
 use mathlib.Core.Logic.{inl, inr}
-use mathlib.Core.List.{List, [], _∷_, map}
-use mathlib.Core.Bool.{Bool, true, false, cond, _&&_}
+use mathlib.Core.List.{List, [], _∷_}
+use mathlib.Core.Bool.{Bool, true, false, cond}
 use Prim.Native.Nat.{ℕ, zero, suc, _≤_, _<_, max}
-use native.Mathlib.Nat.{zero-lt-suc, zero-add}
+use native.Mathlib.Nat.{zero-lt-suc}
 use native.Mathlib.Numerals.{add-one}
 use native.Mathlib.Omega.{arith}
-use borrow.Author.Tests.{leb-true, eqb-true}
-use lib.Dec.{leb, eqb, leb·zero, leb·suc-suc, leb·suc-zero}
+use lib.Dec.{leb, leb·zero, leb·suc-suc, leb·suc-zero}
 use lib.IntN.{ℤ}
-use lib.ListN.{length, getD, take, length-map}
-use lib.Ieee.{Float, nan, binary32, le}
-use Rattle.folds.specs.Lists.{filled, tabulated}
-use Rattle.folds.proofs.Tests.{both}
+use lib.ListN.{length, getD, take}
+use lib.Ieee.{Float, nan, le}
+use Rattle.folds.specs.Lists.{filled}
 use Rattle.folds.proofs.Writing.{tabulated-at}
 use Rattle.columns.specs.Refusals.{longest, answered, RankedRun, rankedRun}
 use Rattle.columns.specs.declared.Outcome.{Outcome}
 use Rattle.columns.specs.declared.Outcome.the-variants as outcome
 use Rattle.columns.specs.declared.Outcome.the-variants.{Accepted}
 use Rattle.columns.proofs.Questions.{if-accepted}
-use Rattle.columns.specs.declared.Counted.{Counted}
 use Rattle.columns.specs.declared.Counted.the-variants.{Passing, Refused}
-use Rattle.columns.specs.declared.Refusal.the-variants.{TooLong, WrongLength}
-use Rattle.floats.specs.Convert.{converted}
 use Rattle.floats.specs.Ratio.{oneIn}
 use Rattle.floats.proofs.Ratio.{sharp-100, sharp-20}
 use Rattle.counting.specs.Labels.{isDecoy, targets}
 use Rattle.counting.specs.Lines.{qualifies, RightLine, rightLine}
 use Rattle.counting.specs.QValues.{qValues, atMost, targetsAtMost}
-use Rattle.counting.proofs.Lines.{last-within, right-line, right-line-only}
+use Rattle.counting.proofs.Lines.{last-in-list, right-line, right-line-only}
 use Rattle.counting.proofs.QValues.{q-length, q-at-most, count-is-line}
 use Rattle.qvalue.specs.Spectrum.{SpectrumRun, spectrumRun, spectrumAsked, spectrumQValue}
-use Rattle.qvalue.proofs.Questions.{lengths as spectrum-lengths}
-use Rattle.line_check.specs.Check.{perOf, countsAt, lineAnswer}
-use Rattle.line_check.specs.declared.Line.the-variants.{Wrong}
+use Rattle.qvalue.proofs.Questions.{spectrum-lengths}
+use Rattle.line_check.specs.Check.{perOf}
 use Rattle.line_check.proofs.Check.{wrong-row, right-answered, wrong-answered}
 use Rattle.ranking.specs.Ranking.{rankedRows, asRanked, rankOf}
 use Rattle.ranking.proofs.Places.{length-as-ranked, rank-below}
 use Rattle.precursor.specs.Precursors.{precursorAsked, precursorQ, pickedPrecursor}
-use Rattle.precursor.proofs.Questions.{LengthsMatch, lengths as precursor-lengths}
+use Rattle.precursor.specs.Inner.Ready.{PrecursorReady}
+use Rattle.precursor.proofs.Questions.{precursor-lengths}
 use Rattle.agreement.specs.Demand3.{OneRight, LastQualifying, LineCheck, Spectra, Precursors, Demand3}
 
 -- ---- lines
 
-one : (rate : ℕ) (labels : List ℤ) → OneRight rate labels
-one rate labels = record {
+exactly-one-right : (rate : ℕ) (labels : List ℤ) → OneRight rate labels
+exactly-one-right rate labels = record {
   line = rightLine rate labels;
-  listed = last-within (qualifies rate labels) (length labels);
+  listed = last-in-list (qualifies rate labels) (length labels);
   right = right-line rate labels;
   only = λ other h r. right-line-only rate labels other r h;
 }
@@ -58,7 +53,7 @@ last-qualifying : (rate : ℕ) (labels : List ℤ) (line : ℕ) → LastQualifyi
 last-qualifying rate labels line = record {
   none-after = λ later h l. right-line rate labels .none-later later (omega arith) l;
   which = elim (wrong-row rate labels line) [
-    | inl w ↦ inr (w .0, omega (arith, w .0, last-within (qualifies rate labels) (length labels)), w .1)
+    | inl w ↦ inr (w .0, omega (arith, w .0, last-in-list (qualifies rate labels) (length labels)), w .1)
     | inr w ↦ inl (w .0)
   ];
 }
@@ -139,7 +134,7 @@ module _ (labels : List ℤ) (scores : List Float) (keys spare : List ℕ) (q : 
       (targetsAtMost (oneIn 20) (asRanked labels scores) (qValues (asRanked labels scores))) count
       (filled 0 keys) (filled 0 spare) (precursorQ labels scores) (filled nan q) a
 
-  lengths : (length labels ≡ length scores) × LengthsMatch (length scores) (length keys) (length spare) (length q)
+  lengths : (length labels ≡ length scores) × PrecursorReady (length scores) (length keys) (length spare) (length q)
   lengths = precursor-lengths _ _ _ _ _ (let-in .0)
 
   as-long : length (asRanked labels scores) ≡ length labels
@@ -173,7 +168,7 @@ module _ (labels : List ℤ) (scores : List Float) (keys spare : List ℕ) (q : 
 
 pub demand-3 : Demand3
 demand-3 = record {
-  one-right = λ rate labels. one (perOf rate) labels;
+  one-right = λ rate labels. exactly-one-right (perOf rate) labels;
   line-check = λ rate. check (perOf rate);
   spectra = spectra;
   precursors = precursors;

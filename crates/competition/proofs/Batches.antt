@@ -10,7 +10,7 @@ use lib.Dec.{T}
 use lib.IntN.{ℤ}
 use lib.ListN.{length, getD, set, length-append}
 use lib.Seq.{set-getD}
-use lib.Ieee.{Float, nan, inf, fin, isNan, lt, eq, le, ofBits}
+use lib.Ieee.{Float, nan, inf, isNan, lt, eq, le, ofBits}
 use Rattle.folds.proofs.Writing.{getD-constant}
 use Rattle.folds.proofs.Tests.{both}
 use Rattle.folds.specs.Lists.{filled}
@@ -25,7 +25,7 @@ use Rattle.competition.specs.Batches.{Batch, appended, noPart, allAllowe
 use Rattle.competition.specs.Winners.{slotSeen, decoyFlag, winnersRun, winnersAsked, winners}
 use Rattle.competition.specs.Inner.Ready.{BatchReady}
 use Rattle.competition.proofs.Questions.{batch-ready, batch-accepted}
-use Rattle.competition.proofs.Rows.{SameLengths, same-lengths-refl}
+use Rattle.competition.proofs.RowSteps.{SameLengths, same-lengths-refl}
 use Rattle.competition.proofs.Calls.{run-of-accepted, all-allowed-joined, after-call, batch-lengths, asked-by-lengths, KeepsSeen, keeps-refl, batch-keeps, unseen-winners}
 
 -- ---- batch after batch
@@ -120,14 +120,7 @@ module _ (slot : ℕ) (label : ℤ) (t : Table) (part : slot ≡ noPart → ⊥)
       → withRow slot label nan t ≡ tableOf (t .forward) (t .reverse) (t .forwardSeen) (set (t .reverseSeen) slot 1)
   nan-of-decoy d = rw (ne-eqb slot noPart part, d, max-nan, set-getD)
 
--- −infinity raises no number, so that a side which saw no other score stays at f32::MIN
-pub minus-infinity : (x : Float) → T (not (isNan x)) → maxNumber x (inf true) ≡ x
-unfolding maxNumber isNan lt
-minus-infinity nan p = absurd p
-minus-infinity (inf true) p = refl
-minus-infinity (inf false) p = refl
-minus-infinity (fin s m e) p = refl
-
+-- −infinity raises no number (`max-minus-infinity` of floats): a side which saw no other score stays at f32::MIN
 pub minus-infinity-leaves-f32-min : maxNumber f32Min (inf true) ≡ f32Min
 unfolding maxNumber lt ofBits
 minus-infinity-leaves-f32-min = refl

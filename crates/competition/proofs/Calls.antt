@@ -6,10 +6,10 @@ use mathlib.Core.Bool.{Bool, true, false, cond, _&&_, and-assoc}
 use Prim.Native.Nat.{ℕ, zero, suc}
 use lib.Dec.{eqb}
 use lib.IntN.{ℤ}
-use lib.ListN.{length, getD, set, replicate}
+use lib.ListN.{length, getD, set}
 use lib.Ieee.{Float, nan}
-use Rattle.folds.proofs.Writing.{tabulated-constant}
-use Rattle.folds.specs.Lists.{filled, tabulated}
+use Rattle.folds.proofs.Writing.{tabulated-blank}
+use Rattle.folds.specs.Lists.{filled}
 use Rattle.columns.specs.declared.Outcome.{Outcome}
 use Rattle.columns.specs.declared.Outcome.the-variants.{Accepted, Refused}
 use Rattle.counting.specs.Labels.{isDecoy}
@@ -17,7 +17,7 @@ use Rattle.competition.specs.Tables.{Table, isSeen, tableRun}
 use Rattle.competition.specs.Batches.{Batch, noPart, allowed, allAllowed, raiseForward, raiseReverse, withRow, added, batchAsked, addRows}
 use Rattle.competition.specs.Winners.{slotSeen, winner, decoyFlag, winnersRun, winnersAsked, winners}
 use Rattle.competition.proofs.Questions.{winners-ready}
-use Rattle.competition.proofs.Rows.{same-lengths-refl, SameLengths, same-lengths-trans, row-lengths}
+use Rattle.competition.proofs.RowSteps.{same-lengths-refl, SameLengths, same-lengths-trans, row-lengths}
 
 -- ---- an accepted batch
 
@@ -91,9 +91,6 @@ batch-keeps (s ∷ ss) (l ∷ ls) (x ∷ xs) t =
 
 -- ---- winners of a table in which no slot is seen
 
-blanks : {A : Type 0} (f : ℕ → A) (v : A) (column : List A) (n : ℕ) → ((slot : ℕ) → f slot ≡ v) → length column ≡ n → tabulated f 0 n ≡ filled v column
-blanks f v column n e l = tabulated-constant f v e 0 n ∙ ap (λ (k : ℕ). replicate k v) (sym l)
-
 pub unseen-winners : (u : Table) → ((slot : ℕ) → slotSeen u slot ≡ false) → (scores : List Float) (flags : List ℕ)
     → winners u scores flags ≡ winnersRun (winnersAsked u (length scores) (length flags)) (filled nan scores) (filled 4294967295 flags)
 unfolding winners
@@ -103,7 +100,7 @@ unseen-winners u unseen scores flags = go (winnersAsked u (length scores) (lengt
         → winners u scores flags ≡ winnersRun (winnersAsked u (length scores) (length flags)) (filled nan scores) (filled 4294967295 flags)
     go Accepted e =
         let w = winners-ready u (length scores) (length flags) e in
-        let s = blanks (winner u) nan scores (length (u .forward)) (λ i. rw (unseen i)) (w .scores-length) in
-        let f = blanks (decoyFlag u) 4294967295 flags (length (u .forward)) (λ i. rw (unseen i)) (w .flags-length) in
+        let s = tabulated-blank (winner u) nan scores (length (u .forward)) (λ i. rw (unseen i)) (w .scores-length) in
+        let f = tabulated-blank (decoyFlag u) 4294967295 flags (length (u .forward)) (λ i. rw (unseen i)) (w .flags-length) in
         rw (e, s, f)
     go (Refused r) e = rw e

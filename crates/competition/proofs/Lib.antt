@@ -1,6 +1,6 @@
 pub mod Questions
 pub mod Slots
-pub mod Rows
+pub mod RowSteps
 pub mod Slotwise
 pub mod Calls
 pub mod Batches

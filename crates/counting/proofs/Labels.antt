@@ -29,17 +29,17 @@ decoys-suc (l ∷ ls) (suc i) d h = go (isDecoy l) _ (decoys (take i ls)) _ (dec
 
 -- ---- together
 
-pub both : (labels : List ℤ) → decoys labels + targets labels ≡ length labels
+pub decoys-and-targets : (labels : List ℤ) → decoys labels + targets labels ≡ length labels
 unfolding decoys targets
-both [] = refl
-both (l ∷ ls) = go (isDecoy l) (decoys ls) (targets ls) (both ls)
+decoys-and-targets [] = refl
+decoys-and-targets (l ∷ ls) = go (isDecoy l) (decoys ls) (targets ls) (decoys-and-targets ls)
   where
     go : (b : Bool) (m n : ℕ) {k : ℕ} → m + n ≡ k → cond b (suc m) m + cond b n (suc n) ≡ suc k
     go true m n e = omega arith
     go false m n e = omega arith
 
 pub row-counts : (row : ℕ) (labels : List ℤ) → decoys (take row labels) + targets (take row labels) ≡ min row (length labels)
-row-counts row labels = both (take row labels) ∙ length-take row labels
+row-counts row labels = decoys-and-targets (take row labels) ∙ length-take row labels
 
 -- ---- one row more
 

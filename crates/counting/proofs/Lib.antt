@@ -3,4 +3,4 @@ pub mod Lines
 pub mod RunningMinimum
 pub mod QValues
 pub mod Tally
-pub mod Passes
+pub mod ColumnPasses

@@ -22,10 +22,10 @@ module _ (p : ℕ → Bool) where
   unfolding lastRow
   last-next n = rw add-one
 
-  pub last-within : (n : ℕ) → lastRow p n ≤ n
+  pub last-in-list : (n : ℕ) → lastRow p n ≤ n
   unfolding lastRow
-  last-within zero = zero-le
-  last-within (suc n) = go (p (suc n)) (last-within n)
+  last-in-list zero = zero-le
+  last-in-list (suc n) = go (p (suc n)) (last-in-list n)
     where
       go : (b : Bool) {e : ℕ} → e ≤ n → cond b (suc n) e ≤ suc n
       go true h = le-refl (suc n)
@@ -83,7 +83,7 @@ module _ (rate : ℕ) (labels : List ℤ) where
   pub right-line-only : (line : ℕ) → RightLine rate labels line → line ≤ length labels → line ≡ rightLine rate labels
   right-line-only line r h =
       let right = rightLine rate labels in
-      let a = not-first line right r right-line (last-within (qualifies rate labels) (length labels)) in
+      let a = not-first line right r right-line (last-in-list (qualifies rate labels) (length labels)) in
       let b = not-first right line right-line r h in
       elim (lt-or-ge line right) [
         | inl k ↦ absurd (a k)

@@ -18,12 +18,12 @@ use lib.Ieee.Bits.{is-true}
 use Rattle.folds.proofs.Tests.{same-test}
 use Rattle.floats.specs.Ratio.{oneIn}
 use Rattle.floats.proofs.Order.{lt-of-le-of-lt, lt-of-lt-of-le}
-use Rattle.floats.proofs.Ratio.{Sharp, ratio as one-rounding, ratio-at-most, ratio-none, ratio-mono}
+use Rattle.floats.proofs.Ratio.{Sharp, one-rounding, ratio-at-most, ratio-none, ratio-mono}
 use Rattle.counting.specs.Labels.{isDecoy, decoys, targets}
 use Rattle.counting.specs.Lines.{qualifies, rightLine}
 use Rattle.counting.specs.QValues.{ratio, ratioAt, ratios, minimum, qValues, atMost}
 use Rattle.counting.proofs.Labels.{row-counts, same-decoys, same-targets, same-length}
-use Rattle.counting.proofs.Lines.{last-within, last-own, last-upper}
+use Rattle.counting.proofs.Lines.{last-in-list, last-own, last-upper}
 use Rattle.folds.proofs.Writing.{length-tabulated, getD-tabulated}
 use Rattle.counting.proofs.RunningMinimum.{minimum-most, minimum-above, minimum-of, minimum-from, length-running-minimum, running-minimum-at, running-minimum-rise, count-up}
 
@@ -114,7 +114,7 @@ module _ (labels : List ℤ) (short : length labels ≤ 16777215) where
         let line = rightLine k labels in
         let j = line - (i + 1) in
         let l : j < length (drop i (ratios labels)) =
-        rw (length-drop, length-ratios) (omega (arith, last-within (qualifies k labels) (length labels))) in
+        rw (length-drop, length-ratios) (omega (arith, last-in-list (qualifies k labels) (length labels))) in
         let row : i + j + 1 ≡ line = omega arith in
         elim (last-own (qualifies k labels) (length labels)) [
           | inl e ↦ absurd (omega (arith, e))
@@ -131,7 +131,7 @@ module _ (labels : List ℤ) (short : length labels ≤ 16777215) where
     -- and they are as many
     pub count-is-line : atMost (oneIn k) (qValues labels) ≡ rightLine k labels
     count-is-line =
-        count-up (oneIn k) (qValues labels) (rightLine k labels) (rw q-length (last-within (qualifies k labels) (length labels)))
+        count-up (oneIn k) (qValues labels) (rightLine k labels) (rw q-length (last-in-list (qualifies k labels) (length labels)))
         (λ (i : ℕ) (h : i < length (qValues labels)). q-at-most i (rw q-length at h) ∙ rw add-one)
 
 -- targets may have any other target numbers

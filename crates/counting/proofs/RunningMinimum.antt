@@ -3,13 +3,13 @@
 use mathlib.Core.Path.{_≡_, refl, sym, ap, _∙_}
 use mathlib.Core.Logic.{inl, inr}
 use mathlib.Core.List.{List, [], _∷_}
-use mathlib.Core.Bool.{not, cond}
+use mathlib.Core.Bool.{not}
 use Prim.Native.Nat.{ℕ, zero, suc, _≤_, _<_, zero-le}
 use native.Mathlib.Nat.{not-suc-le-zero, le-of-suc-le-suc, zero-lt-suc}
 use native.Mathlib.Omega.{arith}
 use lib.Dec.{T, leb, leb·zero, leb·suc-suc, leb·suc-zero}
 use lib.ListN.{length, drop, getD}
-use lib.Ieee.{Float, nan, inf, fin, ofBits, isNan, lt, le}
+use lib.Ieee.{Float, nan, ofBits, isNan, lt, le}
 use Rattle.folds.proofs.Tests.{or-l, or-r, or-split}
 use Rattle.floats.specs.MinMax.{minNumber}
 use Rattle.floats.proofs.Order.{le-left, le-refl, le-min, lt→not-le, min-either, min-le-left}
@@ -17,13 +17,6 @@ use Rattle.floats.specs.Constants.{f32One}
 use Rattle.counting.specs.QValues.{minimum, runningMinimum, atMost}
 
 -- ---- the least
-
--- one comparison finds the smaller, where the first is no NaN
-pub min-of-number : (a b : Float) → T (not (isNan a)) → minNumber a b ≡ cond (lt b a) b a
-unfolding minNumber isNan
-min-of-number nan b p = absurd p
-min-of-number (inf s) b p = refl
-min-of-number (fin s m e) b p = refl
 
 pub minimum-number : (rs : List Float) → T (not (isNan (minimum rs)))
 unfolding minimum isNan ofBits

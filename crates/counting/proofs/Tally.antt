@@ -6,7 +6,7 @@ use mathlib.Core.Bool.{Bool, true, false, cond}
 use Prim.Native.Nat.{ℕ, suc, _+_, _-_, _^_, _≤_, _<_, zero-le}
 use native.Mathlib.Omega.{arith}
 use borrow.Author.Tests.{ne-eqb}
-use lib.Dec.{T, eqb, eqb→eq}
+use lib.Dec.{eqb, eqb→eq}
 use lib.IntN.{ℤ, pos, negsuc}
 use lib.Signed.{mag}
 use lib.ListN.{length, take, getD}

@@ -23,7 +23,7 @@ use Rattle.counting.proofs.RunningMinimum.{minimum-number}
 use Rattle.ranking.specs.Inner.Layout.{decoyBit, labelOf}
 use Rattle.ranking.proofs.Packed.{pass-one}
 use Rattle.fdr.specs.Inner.Passes.{withNumber, withNumbers, keyNumber, HoldsNumber}
-use Rattle.fdr.proofs.Numbers.{min-number}
+use Rattle.floats.proofs.Order.{min-number}
 
 abbrev minima : List ℕ → List Float
 minima keys = runningMinimum (map keyNumber keys)

@@ -1,17 +1,18 @@
 -- The column of names: written down the ranked rows, it holds the q-value of the last row that has the name.
 use mathlib.Core.Path.{_≡_, refl, sym, ap, ap₂, _∙_, subst}
 use mathlib.Core.List.{List, [], _∷_, map}
-use mathlib.Core.Bool.{Bool, true, false, cond}
+use mathlib.Core.Bool.{Bool, true, false}
 use Prim.Native.Nat.{ℕ, zero, suc, _+_, _*_, _≤_, _<_, zero-le}
 use native.Mathlib.Numerals.{add-one}
 use native.Mathlib.Omega.{arith}
 use lib.Dec.{eqb, lit<}
-use borrow.Author.Tests.{eqb-true, eqb-false}
+use borrow.Author.Tests.{eqb-false}
 use lib.ListN.{length, getD, drop, set, replicate, length-set, drop-of-length-le}
-use lib.Seq.{drop-cons, getD-set-same, getD-set-other}
+use lib.Seq.{drop-cons}
 use lib.Ieee.{binary32, isNan, ofBits}
+use Rattle.floats.proofs.Fields.{bits-cond}
 use Rattle.folds.specs.Inner.All.{All}
-use Rattle.folds.proofs.Writing.{all-at}
+use Rattle.folds.proofs.Writing.{set-reads, all-at, all-set}
 use Rattle.folds.proofs.Tests.{both}
 use Rattle.ranking.specs.Inner.Layout.{placeOf, decoyBit, upperOf}
 use Rattle.competition.proofs.Questions.{slot-in-bounds}
@@ -67,17 +68,6 @@ module _ (names : Names) (keys column₀ : List ℕ) {i : ℕ} {column : List �
 
 -- ---- what a name reads
 
-set-reads : (column : List ℕ) (n v name : ℕ) → n < length column → getD (set column n v) name 0 ≡ cond (eqb n name) v (getD column name 0)
-set-reads column n v name h = go (eqb n name) (eqb-true n name) (eqb-false n name)
-  where
-    go : (b : Bool) → (b ≡ true → n ≡ name) → (b ≡ false → n ≡ name → ⊥) → getD (set column n v) name 0 ≡ cond b v (getD column name 0)
-    go true e d = ap (λ (m : ℕ). getD (set column n v) m 0) (sym (e refl)) ∙ getD-set-same column n v 0 h
-    go false e d = getD-set-other column n name v 0 (λ p. d refl (sym p))
-
-bits-cond : (b : Bool) (x y : ℕ) → ofBits binary32 (cond b x y) ≡ cond b (ofBits binary32 x) (ofBits binary32 y)
-bits-cond true x y = refl
-bits-cond false x y = refl
-
 pub names-read : (names : Names) (t : Table) (keys column : List ℕ) (name : ℕ) → All (λ k. NamesInBounds (length column) (placeOf k)) keys
     → ofBits binary32 (getD (writtenAtNames names keys column) name 0) ≡ qOf names (map (keySide t) keys) (map keyNumber keys) name (ofBits binary32 (getD column name 0))
 unfolding writtenAtNames qOf
@@ -87,14 +77,9 @@ names-read names t (k ∷ ks) column name w =
     let h : n < length column = name-in-bounds names (placeOf k) _ (length column) (w .0) in
     names-read names t ks (set column n (upperOf k)) name
     (subst (λ (m : ℕ). All (λ x. NamesInBounds m (placeOf x)) ks) (sym (length-set column n (upperOf k))) (w .1))
-    ∙ ap (qOf names (map (keySide t) ks) (map keyNumber ks) name) (ap (ofBits binary32) (set-reads column n (upperOf k) name h) ∙ bits-cond (eqb n name) (upperOf k) (getD column name 0))
+    ∙ ap (qOf names (map (keySide t) ks) (map keyNumber ks) name) (ap (ofBits binary32) (set-reads column n (upperOf k) name 0 h) ∙ bits-cond binary32 (eqb n name) (upperOf k) (getD column name 0))
 
 -- ---- each place holds the bits of a number
-
-all-set : (P : ℕ → Type 0) (l : List ℕ) (i v : ℕ) → All P l → P v → All P (set l i v)
-all-set P [] i v w h = tt
-all-set P (x ∷ xs) zero v w h = (h, w .1)
-all-set P (x ∷ xs) (suc i) v w h = (w .0, all-set P xs i v (w .1) h)
 
 pub names-bits : (names : Names) (keys column : List ℕ) → All HoldsNumber keys → All NumberBits column → All NumberBits (writtenAtNames names keys column)
 unfolding writtenAtNames

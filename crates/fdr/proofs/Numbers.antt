@@ -1,22 +1,22 @@
 -- Numbers in keys: a number written over the score can be read back, and the payload stays.
 use mathlib.Core.Path.{_≡_, refl, sym, ap, ap₂, _∙_, subst}
-use mathlib.Core.Logic.{inl, inr}
 use mathlib.Core.List.{List, [], _∷_, map}
-use mathlib.Core.Bool.{Bool, true, false, not, cond}
+use mathlib.Core.Bool.{not}
 use Prim.Native.Nat.{ℕ, suc, _/_}
 use native.Mathlib.Omega.{arith}
-use lib.Dec.{T, not-T}
+use lib.Dec.{T}
 use lib.ListN.{length}
-use lib.Ieee.{Float, binary32, fits, isNan, lt, le, ofBits, toBits}
+use lib.Ieee.{Float, binary32, fits, isNan, ofBits, toBits}
 use lib.Ieee.Fits.{div-fits}
-use lib.Ieee.Bits.{cond-no, ofBits-toBits, toBits-lt, ofBits-fits}
+use lib.Ieee.Bits.{ofBits-toBits, toBits-lt}
 use Rattle.folds.specs.Inner.All.{All}
 use Rattle.folds.proofs.Writing.{all-mapped}
 use Rattle.floats.specs.Constants.{f32One}
 use Rattle.floats.specs.MinMax.{minNumber}
-use Rattle.floats.proofs.Order.{le-left, lt→not-le, lt-of-lt-of-le, min-either, min-le-left}
+use Rattle.floats.proofs.Order.{min-number, min-fits}
+use Rattle.floats.proofs.Constants.{one-number, one-fits, min-capped}
 use Rattle.counting.specs.QValues.{minimum, runningMinimum}
-use Rattle.counting.proofs.RunningMinimum.{min-of-number, minimum-number, minimum-most}
+use Rattle.counting.proofs.RunningMinimum.{minimum-number, minimum-most}
 use Rattle.ranking.specs.Inner.Layout.{placeOf, decoyBit}
 use Rattle.ranking.proofs.Packed.{upper-of-with, payload-of-with, with-over, bit-of-with}
 use Rattle.ranking.proofs.Ranks.{AllF32}
@@ -36,19 +36,6 @@ number-bits q h = record {
   number = subst (λ (x : Float). T (not (isNan x))) (sym (ofBits-toBits binary32 q (h .1))) (h .0);
 }
 
-pub one-number : T (not (isNan f32One))
-unfolding isNan ofBits
-one-number = tt
-
-one-fits : T (fits binary32 f32One)
-one-fits = ofBits-fits binary32 0x3F800000
-
-pub min-number : (a b : Float) → T (not (isNan a)) → T (not (isNan (minNumber a b)))
-min-number a b h = le-left (minNumber a b) a (min-le-left a b h)
-
-min-fits : (a b : Float) → T (fits binary32 a) → T (fits binary32 b) → T (fits binary32 (minNumber a b))
-min-fits a b p q = elim (min-either a b) [ inl e ↦ rw e p | inr e ↦ rw e q ]
-
 -- ---- ratios are of the format, so that their minima, and ratios of at most 1.0, can be written
 
 module _ (settings : Settings) (bins : List Float) where
@@ -64,12 +51,12 @@ module _ (settings : Settings) (bins : List Float) where
 
 pub capped-numbers : (rs : List Float) → AllF32 rs → All F32Number (map (minNumber f32One) rs)
 capped-numbers rs w =
-    all-mapped (λ r. T (fits binary32 r)) F32Number (minNumber f32One) (λ r h. (min-number f32One r one-number, min-fits f32One r one-fits h)) rs w
+    all-mapped (λ r. T (fits binary32 r)) F32Number (minNumber f32One) (λ r h. (min-number f32One r one-number, min-fits binary32 f32One r one-fits h)) rs w
 
 minimum-fits : (rs : List Float) → AllF32 rs → T (fits binary32 (minimum rs))
 unfolding minimum
 minimum-fits [] w = one-fits
-minimum-fits (r ∷ rs) w = min-fits (minimum rs) r (minimum-fits rs (w .1)) (w .0)
+minimum-fits (r ∷ rs) w = min-fits binary32 (minimum rs) r (minimum-fits rs (w .1)) (w .0)
 
 pub minimum-numbers : (rs : List Float) → AllF32 rs → All F32Number (runningMinimum rs)
 unfolding runningMinimum
@@ -121,22 +108,10 @@ written-over (q ∷ qs) (r ∷ rs) (k ∷ ks) e =
 
 -- ---- a ratio above 1.0 and a NaN may stand as 1.0: the minimum starts there
 
-capped : (a r : Float) → T (not (isNan a)) → T (le a f32One) → minNumber a (minNumber f32One r) ≡ minNumber a r
-capped a r n h =
-    ap (minNumber a) (min-of-number f32One r one-number)
-    ∙ go (lt r f32One) (λ t. lt-of-lt-of-le r a f32One t h)
-  where
-    least : minNumber a f32One ≡ a
-    least = min-of-number a f32One n ∙ cond-no (lt f32One a) f32One a (not-T (lt f32One a) (λ t. lt→not-le f32One a t h))
-
-    go : (x : Bool) → (T (lt r a) → T x) → minNumber a (cond x r f32One) ≡ minNumber a r
-    go true f = refl
-    go false f = least ∙ sym (min-of-number a r n ∙ cond-no (lt r a) r a (not-T (lt r a) f))
-
 minimum-capped : (rs : List Float) → minimum (map (minNumber f32One) rs) ≡ minimum rs
 unfolding minimum
 minimum-capped [] = refl
-minimum-capped (r ∷ rs) = ap (λ (x : Float). minNumber x (minNumber f32One r)) (minimum-capped rs) ∙ capped (minimum rs) r (minimum-number rs) (minimum-most rs)
+minimum-capped (r ∷ rs) = ap (λ (x : Float). minNumber x (minNumber f32One r)) (minimum-capped rs) ∙ min-capped (minimum rs) r (minimum-number rs) (minimum-most rs)
 
 pub running-minimum-capped : (rs : List Float) → runningMinimum (map (minNumber f32One) rs) ≡ runningMinimum rs
 unfolding runningMinimum

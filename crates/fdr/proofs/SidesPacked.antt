@@ -29,10 +29,10 @@ pub record Packing (t : Table) (slot rows : ℕ) (keys : List ℕ) : Type 0 wher
   pub is : take rows keys ++ map sideKey (sidesFrom t slot (length (t .forward) - slot)) ≡ map sideKey (seenSides t)
 
 pub packing-start : (t : Table) (keys : List ℕ) → length keys ≡ 2 * length (t .forward) → Packing t 0 0 keys
-packing-start t keys e = record { high = zero-le; same = e; few = zero-le; is = ap (λ (n : ℕ). map sideKey (sidesFrom t 0 n)) (less (length (t .forward))) }
+packing-start t keys e = record { high = zero-le; same = e; few = zero-le; is = ap (λ (n : ℕ). map sideKey (sidesFrom t 0 n)) (minus-none (length (t .forward))) }
   where
-    less : (n : ℕ) → n - 0 ≡ n
-    less n = omega arith
+    minus-none : (n : ℕ) → n - 0 ≡ n
+    minus-none n = omega arith
 
 side-key : (seen : Bool) (s : Side) (key : ℕ) → key ≡ sideKey s → cond seen (key ∷ []) [] ≡ map sideKey (cond seen (s ∷ []) [])
 side-key true s key e = ap (λ (k : ℕ). k ∷ []) e

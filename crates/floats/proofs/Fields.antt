@@ -10,7 +10,7 @@ use lib.IntN.{ℤ}
 use lib.Dec.{T, leb, eqb, eqb→eq, leb→le, not-T}
 use lib.Arith.{le→nltb}
 use lib.Pow.{pow-add, pow-pos, pow-mono}
-use lib.Ieee.{Float, nan, inf, fin, binary64, size, odd, neg, fits, isNan, ofFields, ofBits, nanBits, toBits}
+use lib.Ieee.{Float, nan, inf, fin, Format, binary64, size, odd, neg, fits, isNan, ofFields, ofBits, nanBits, toBits}
 use lib.Ieee.Digits.{size-lt, size-reaches}
 use lib.Ieee.Fits.{kept-lt}
 use lib.Ieee.Bits.{is-false, cond-no, ofBits-toBits, nanBits-above}
@@ -141,3 +141,9 @@ no-nan k h =
   where
     under : k < 2047 → k * 4503599627370496 % 9223372036854775808 ≤ 2047 * 4503599627370496
     under g = omega arith
+
+-- ---- bits that a test picks
+
+pub bits-cond : (f : Format) (b : Bool) (x y : ℕ) → ofBits f (cond b x y) ≡ cond b (ofBits f x) (ofBits f y)
+bits-cond f true x y = refl
+bits-cond f false x y = refl

@@ -29,20 +29,20 @@ above (fin false zero e) t = absurd (no (ltb→lt (0 * down e) (0 * up e * 1) t)
     no h = omega (arith, zero-mul (up e), zero-mul (down e))
 above (fin false (suc m) e) t = some
 
-pub under : (z : Float) → T (lt z plusZero) → Off true z
+pub off-below-zero : (z : Float) → T (lt z plusZero) → Off true z
 unfolding lt
-under nan t = absurd t
-under (inf true) t = infinite
-under (inf false) t = absurd t
-under (fin false m e) t = absurd (no (ltb→lt (m * up e * 1) (0 * down e) t))
+off-below-zero nan t = absurd t
+off-below-zero (inf true) t = infinite
+off-below-zero (inf false) t = absurd t
+off-below-zero (fin false m e) t = absurd (no (ltb→lt (m * up e * 1) (0 * down e) t))
   where
     no : m * up e * 1 < 0 * down e → ⊥
     no h = omega (arith, zero-mul (down e))
-under (fin true zero e) t = absurd (no (ltb→lt 0 (0 * up e * 1 + 0 * down e) t))
+off-below-zero (fin true zero e) t = absurd (no (ltb→lt 0 (0 * up e * 1 + 0 * down e) t))
   where
     no : 0 < 0 * up e * 1 + 0 * down e → ⊥
     no h = omega (arith, zero-mul (up e), zero-mul (down e))
-under (fin true (suc m) e) t = some
+off-below-zero (fin true (suc m) e) t = some
 
 module _ (f : Format) where
   -- ---- over +0
@@ -97,12 +97,12 @@ module _ (f : Format) where
   infinite-div s (inf t) = refl
   infinite-div s (fin t n d) = refl
 
-  -- an infinity less a number, over another
-  pub infinite-less : (s : Bool) (x y : Float) → finite (div f (sub f (inf s) x) y) ≡ false
+  -- an infinity minus a number, over another
+  pub infinite-minus : (s : Bool) (x y : Float) → finite (div f (sub f (inf s) x) y) ≡ false
   unfolding sub add neg div
-  infinite-less s nan y = refl
-  infinite-less true (inf true) y = refl
-  infinite-less true (inf false) y = infinite-div true y
-  infinite-less false (inf true) y = infinite-div false y
-  infinite-less false (inf false) y = refl
-  infinite-less s (fin t n d) y = infinite-div s y
+  infinite-minus s nan y = refl
+  infinite-minus true (inf true) y = refl
+  infinite-minus true (inf false) y = infinite-div true y
+  infinite-minus false (inf true) y = infinite-div false y
+  infinite-minus false (inf false) y = refl
+  infinite-minus s (fin t n d) y = infinite-div s y

@@ -18,3 +18,4 @@ pub mod Nans
 pub mod Infinities
 pub mod Extremes
 pub mod Products
+pub mod Constants

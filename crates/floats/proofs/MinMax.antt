@@ -38,3 +38,10 @@ unfolding maxNumber isNan lt
 max-is nan b = rw ne-self
 max-is (inf s) b = rw ne-self
 max-is (fin s m e) b = rw ne-self
+
+-- one comparison finds the smaller, where the first is no NaN
+pub min-of-number : (a b : Float) → T (not (isNan a)) → minNumber a b ≡ cond (lt b a) b a
+unfolding minNumber isNan
+min-of-number nan b p = absurd p
+min-of-number (inf s) b p = refl
+min-of-number (fin s m e) b p = refl

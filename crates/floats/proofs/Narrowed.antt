@@ -1,5 +1,5 @@
--- What `narrow` works out, as floats: below the end of f32 the sum of the magnitude and the power of two, less that
--- power, is the magnitude converted; from there on an infinity is; and the sign goes on last.
+-- What `narrow` works out, as floats: below the end of f32 the sum of the magnitude and the power of two, minus
+-- that power, is the magnitude converted; from there on an infinity is; and the sign goes on last.
 use mathlib.Core.Path.{_≡_, refl, sym, ap, _∙_}
 use mathlib.Core.Logic.{inl, inr}
 use Prim.Native.Nat.{ℕ, zero, suc, _+_, _-_, _*_, _/_, _^_, _≤_, _<_, max}
@@ -21,15 +21,15 @@ use Rattle.floats.specs.Signs.{negative}
 use Rattle.floats.proofs.Signs.{absolute}
 use Rattle.floats.proofs.Values.{unitsOf, in-format, units-value}
 use Rattle.floats.proofs.Fractions.{lt-values, le-values, neg-round}
-use Rattle.floats.proofs.Narrowing.{end, rounded, in-range, out-of-range, place-of}
+use Rattle.floats.proofs.Narrowing.{end, rounded, rounded-below, out-of-range, place-of}
 use Rattle.floats.proofs.Fields.{exponent, power}
 
 -- ---- the end of f32, 2 ^ 128 - 2 ^ 103
 
-abbrev pub limit : Float
-limit = ofBits binary64 5183643170835005440
+abbrev pub narrowLimit : Float
+narrowLimit = ofBits binary64 5183643170835005440
 
-limit-value : HasValue limit false end (2 ^ 1074)
+limit-value : HasValue narrowLimit false end (2 ^ 1074)
 unfolding ofBits
 limit-value = (refl, refl)
 
@@ -37,13 +37,13 @@ module _ (s : Bool) (m : ℕ) (e : ℤ) (h : T (fits binary64 (fin s m e))) wher
   in-full : m * up e * 2 ^ 1074 ≡ unitsOf binary64 m e * down e
   in-full = units-value binary64 s m e (in-format binary64 s m e h) .1
 
-  limit-at : le limit (fin false m e) ≡ leb end (unitsOf binary64 m e)
-  limit-at = le-values limit (fin false m e) end (unitsOf binary64 m e) (2 ^ 1074) (pow-pos 1074) limit-value (refl, in-full)
+  limit-at : le narrowLimit (fin false m e) ≡ leb end (unitsOf binary64 m e)
+  limit-at = le-values narrowLimit (fin false m e) end (unitsOf binary64 m e) (2 ^ 1074) (pow-pos 1074) limit-value (refl, in-full)
 
-  reaches : le limit (fin false m e) ≡ true → end ≤ unitsOf binary64 m e
+  reaches : le narrowLimit (fin false m e) ≡ true → end ≤ unitsOf binary64 m e
   reaches t = leb-true end (unitsOf binary64 m e) (sym limit-at ∙ t)
 
-  stays : le limit (fin false m e) ≡ false → unitsOf binary64 m e < end
+  stays : le narrowLimit (fin false m e) ≡ false → unitsOf binary64 m e < end
   stays t = leb-false end (unitsOf binary64 m e) (sym limit-at ∙ t)
 
   -- the magnitude converted is its units rounded
@@ -52,7 +52,7 @@ module _ (s : Bool) (m : ℕ) (e : ℤ) (h : T (fits binary64 (fin s m e))) wher
 
 -- ---- what `nearest_f32` returns, of a magnitude
 
-pub infinite : (x : Float) → T (fits binary64 x) → negative x ≡ false → le limit x ≡ true → converted binary32 x ≡ inf false
+pub infinite : (x : Float) → T (fits binary64 x) → negative x ≡ false → le narrowLimit x ≡ true → converted binary32 x ≡ inf false
 unfolding converted le ofBits
 infinite nan h p t = absurd (false≢true t)
 infinite (inf s) h p t = ap inf p
@@ -81,7 +81,7 @@ max-unit n h =
     ]
 
 -- below the end the exponent field is small
-pub field-lt : (x : Float) → T (fits binary64 x) → T (not (isNan x)) → negative x ≡ false → le limit x ≡ false → toBits binary64 x / 4503599627370496 ≤ 1150
+pub field-lt : (x : Float) → T (fits binary64 x) → T (not (isNan x)) → negative x ≡ false → le narrowLimit x ≡ false → toBits binary64 x / 4503599627370496 ≤ 1150
 unfolding le isNan ofBits
 field-lt nan h k p t = absurd k
 field-lt (inf true) h k p t = absurd (true≢false p)
@@ -91,14 +91,14 @@ field-lt (fin false m e) h k p t =
     let N = unitsOf binary64 m e in
     rw (exponent m e) (omega (arith, place-of N (stays false m e h t) .most))
 
-pub summed : (x w : Float) → T (fits binary64 x) → T (not (isNan x)) → negative x ≡ false → le limit x ≡ false → w ≡ unitAt (max 897 (toBits binary64 x / 4503599627370496))
+pub sum-rounds : (x w : Float) → T (fits binary64 x) → T (not (isNan x)) → negative x ≡ false → le narrowLimit x ≡ false → w ≡ unitAt (max 897 (toBits binary64 x / 4503599627370496))
     → sub binary64 (add binary64 x w) w ≡ converted binary32 x
 unfolding converted le isNan ofBits
-summed nan w h k p t q = absurd k
-summed (inf true) w h k p t q = absurd (true≢false p)
-summed (inf false) w h k p t q = absurd (true≢false t)
-summed (fin true m e) w h k p t q = absurd (true≢false p)
-summed (fin false m e) w h k p t q =
+sum-rounds nan w h k p t q = absurd k
+sum-rounds (inf true) w h k p t q = absurd (true≢false p)
+sum-rounds (inf false) w h k p t q = absurd (true≢false t)
+sum-rounds (fin true m e) w h k p t q = absurd (true≢false p)
+sum-rounds (fin false m e) w h k p t q =
     let N = unitsOf binary64 m e in
     let i = size N - 949 in
     let place = place-of N (stays false m e h t) in
@@ -106,7 +106,7 @@ summed (fin false m e) w h k p t q =
     let u : 897 + i + 28 ≡ 925 + i = omega arith in
     rw (q, exponent m e, z)
     (rounded N i place (fin false m e) (unitAt (897 + i)) (units-value binary64 false m e (in-format binary64 false m e h))
-    (rw u at (unit-value (897 + i) (omega (arith, place .most)))) (in-range N i place (stays false m e h t)))
+    (rw u at (unit-value (897 + i) (omega (arith, place .most)))) (rounded-below N i place (stays false m e h t)))
     ∙ sym (by-units false m e h)
 
 -- ---- and the sign goes on last

@@ -60,57 +60,57 @@ pub record Place (N i : ℕ) : Type 0 where
   pub reached : (i ≡ 0) ⊎ (2 ^ (948 + i) ≤ N)
   pub most : i ≤ 253
 
--- the unit that N is rounded to, and the power of two that is added
-abbrev pub unit : ℕ → ℕ
-unit i = 2 ^ (925 + i)
+-- what the last kept digit weighs, and the power of two that is added
+abbrev pub lastDigit : ℕ → ℕ
+lastDigit i = 2 ^ (925 + i)
 
-abbrev pub added : ℕ → ℕ
-added i = 4503599627370496 * unit i
+abbrev pub addedPower : ℕ → ℕ
+addedPower i = 4503599627370496 * lastDigit i
 
 module _ (N i : ℕ) (h : Place N i) where
-  unit-pos : 0 < unit i
-  unit-pos = pow-pos (925 + i)
+  last-digit-pos : 0 < lastDigit i
+  last-digit-pos = pow-pos (925 + i)
 
-  few : closest N (unit i) ≤ 16777216
-  few = closest-le N (unit i) 16777216 unit-pos (le-trans (le-of-lt (h .under)) (le-of-eq (ap (λ (x : ℕ). 2 ^ x) split ∙ pow-add 2 24 (925 + i))))
+  few : closest N (lastDigit i) ≤ 16777216
+  few = closest-le N (lastDigit i) 16777216 last-digit-pos (le-trans (le-of-lt (h .under)) (le-of-eq (ap (λ (x : ℕ). 2 ^ x) split ∙ pow-add 2 24 (925 + i))))
     where
       split : 949 + i ≡ 24 + (925 + i)
       split = omega arith
 
-  added-is : added i ≡ 2 ^ (977 + i)
-  added-is = sym (pow-add 2 52 (925 + i)) ∙ ap (λ (x : ℕ). 2 ^ x) join
+  added-power-is : addedPower i ≡ 2 ^ (977 + i)
+  added-power-is = sym (pow-add 2 52 (925 + i)) ∙ ap (λ (x : ℕ). 2 ^ x) join
     where
       join : 52 + (925 + i) ≡ 977 + i
       join = omega arith
 
-  sum-size : size (N + added i) ≡ 978 + i
-  sum-size = size-is (N + added i) (977 + i) low-end high-end ∙ next
+  sum-size : size (N + addedPower i) ≡ 978 + i
+  sum-size = size-is (N + addedPower i) (977 + i) low-end high-end ∙ next
     where
       next : suc (977 + i) ≡ 978 + i
       next = omega arith
 
-      low-end : 2 ^ (977 + i) ≤ N + added i
-      low-end = omega (arith, added-is)
+      low-end : 2 ^ (977 + i) ≤ N + addedPower i
+      low-end = omega (arith, added-power-is)
 
       twice : 2 ^ suc (977 + i) ≡ 2 ^ (977 + i) + 2 ^ (977 + i)
       twice = two-pow-succ (977 + i)
 
-      high-end : N + added i < 2 ^ suc (977 + i)
+      high-end : N + addedPower i < 2 ^ suc (977 + i)
       high-end =
           let a : 2 ^ (949 + i) ≤ 2 ^ (977 + i) = pow-mono (shift i) in
           let b = h .under in
-          omega (arith, added-is, twice)
+          omega (arith, added-power-is, twice)
         where
           shift : (k : ℕ) → 949 + k ≤ 977 + k
           shift k = omega arith
 
-  sum-grid : grid binary64 (N + added i) (2 ^ 1074) ≡ (closest N (unit i) + 4503599627370496) * unit i
+  sum-grid : grid binary64 (N + addedPower i) (2 ^ 1074) ≡ (closest N (lastDigit i) + 4503599627370496) * lastDigit i
   sum-grid =
-      let S = N + added i in
+      let S = N + addedPower i in
       grid-at binary64 S (2 ^ 1074) (925 + i) (ap (λ (x : ℕ). size x - 53) (mul-div-cancel S (pow-pos 1074)) ∙ ap (λ (x : ℕ). x - 53) sum-size ∙ back i)
-      ∙ ap (λ (x : ℕ). x * unit i)
-      (closest-same (S * 2 ^ 1074) (2 ^ 1074 * unit i) S (unit i) (mul-pos (pow-pos 1074) unit-pos) unit-pos (mul-assoc S (2 ^ 1074) (unit i))
-      ∙ closest-even N (unit i) 2251799813685248 unit-pos)
+      ∙ ap (λ (x : ℕ). x * lastDigit i)
+      (closest-same (S * 2 ^ 1074) (2 ^ 1074 * lastDigit i) S (lastDigit i) (mul-pos (pow-pos 1074) last-digit-pos) last-digit-pos (mul-assoc S (2 ^ 1074) (lastDigit i))
+      ∙ closest-even N (lastDigit i) 2251799813685248 last-digit-pos)
     where
       back : (k : ℕ) → 978 + k - 53 ≡ 925 + k
       back k = omega arith
@@ -147,46 +147,46 @@ module _ (N i : ℕ) (h : Place N i) where
           (size-is (N / 2 ^ 925) (23 + i) (under (23 + i) (subst (λ (x : ℕ). 2 ^ x ≤ N) foot g)) (over (suc (23 + i)) (subst (λ (x : ℕ). N < 2 ^ x) top (h .under))))
           ∙ left
 
-  narrow-grid : grid binary32 N (2 ^ 1074) ≡ closest N (unit i) * 2 ^ i
+  narrow-grid : grid binary32 N (2 ^ 1074) ≡ closest N (lastDigit i) * 2 ^ i
   narrow-grid =
       grid-at binary32 N (2 ^ 1074) i (ap (λ (x : ℕ). size x - 24) (div-same (N * 2 ^ 149) (2 ^ 1074) N (2 ^ 925) (pow-pos 1074) (pow-pos 925) (mul-assoc N (2 ^ 149) (2 ^ 925))) ∙ kept-digits)
       ∙ ap (λ (x : ℕ). x * 2 ^ i)
-      (closest-same (N * 2 ^ 149) (2 ^ 1074 * 2 ^ i) N (unit i) (mul-pos (pow-pos 1074) (pow-pos i)) unit-pos
-      (mul-assoc N (2 ^ 149) (unit i) ∙ ap (λ (x : ℕ). N * x) (sym (pow-add 2 149 (925 + i)) ∙ ap (λ (x : ℕ). 2 ^ x) join ∙ pow-add 2 1074 i)))
+      (closest-same (N * 2 ^ 149) (2 ^ 1074 * 2 ^ i) N (lastDigit i) (mul-pos (pow-pos 1074) (pow-pos i)) last-digit-pos
+      (mul-assoc N (2 ^ 149) (lastDigit i) ∙ ap (λ (x : ℕ). N * x) (sym (pow-add 2 149 (925 + i)) ∙ ap (λ (x : ℕ). 2 ^ x) join ∙ pow-add 2 1074 i)))
     where
       join : 149 + (925 + i) ≡ 1074 + i
       join = omega arith
 
   -- nothing here comes near an f64's end
-  within : (a : ℕ) → a ≤ 9007199254740992 → a * unit i < 2 ^ 2098
-  within a g = lt-of-le-of-lt (mul-le-mul g (pow-mono (high (h .most)))) (lit< tt)
+  below-f64-end : (a : ℕ) → a ≤ 9007199254740992 → a * lastDigit i < 2 ^ 2098
+  below-f64-end a g = lt-of-le-of-lt (mul-le-mul g (pow-mono (high (h .most)))) (lit< tt)
     where
       high : i ≤ 253 → 925 + i ≤ 1178
       high e = omega arith
 
-  -- the sum, less the power of two that was added, is N rounded to an f32
-  pub rounded : (x y : Float) → HasValue x false N (2 ^ 1074) → HasValue y false (added i) (2 ^ 1074) → closest N (unit i) * 2 ^ i < 2 ^ 277
+  -- the sum, minus the power of two that was added, is N rounded to an f32
+  pub rounded : (x y : Float) → HasValue x false N (2 ^ 1074) → HasValue y false (addedPower i) (2 ^ 1074) → closest N (lastDigit i) * 2 ^ i < 2 ^ 277
       → sub binary64 (add binary64 x y) y ≡ round binary32 false N (2 ^ 1074)
   rounded x y v w fine =
-      let c = closest N (unit i) in
-      let u = unit i in
+      let c = closest N (lastDigit i) in
+      let u = lastDigit i in
       let L = 2 ^ 1074 in
-      let S = N + added i in
+      let S = N + addedPower i in
       let g = (c + 4503599627370496) * u in
       let total : HasValue (add binary64 x y) false g L =
-      subst (λ (z : Float). HasValue z false g L) (sym (add-values binary64 x y N (added i) L (pow-pos 1074) v w))
+      subst (λ (z : Float). HasValue z false g L) (sym (add-values binary64 x y N (addedPower i) L (pow-pos 1074) v w))
       (subst (λ (z : ℕ). HasValue (round binary64 false S L) false z L) sum-grid
-      (round-val binary64 S L (subst (λ (z : ℕ). z < 2 ^ 2098) (sym sum-grid) (within (c + 4503599627370496) (more few))))) in
-      let parts : g ≡ c * u + added i = add-mul c 4503599627370496 u in
+      (round-val binary64 S L (subst (λ (z : ℕ). z < 2 ^ 2098) (sym sum-grid) (below-f64-end (c + 4503599627370496) (more few))))) in
+      let parts : g ≡ c * u + addedPower i = add-mul c 4503599627370496 u in
       let left : sub binary64 (add binary64 x y) y ≡ round binary64 false (c * u) L =
-      sub-values binary64 (add binary64 x y) y g (added i) L (pow-pos 1074) (ge (c * u) (added i) g parts) total w
-      ∙ ap (λ (z : ℕ). round binary64 false z L) (ap (λ (z : ℕ). z - added i) parts ∙ add-sub-cancel (c * u) (added i)) in
+      sub-values binary64 (add binary64 x y) y g (addedPower i) L (pow-pos 1074) (ge (c * u) (addedPower i) g parts) total w
+      ∙ ap (λ (z : ℕ). round binary64 false z L) (ap (λ (z : ℕ). z - addedPower i) parts ∙ add-sub-cancel (c * u) (addedPower i)) in
       value-unique binary64 (sub binary64 (add binary64 x y) y) (round binary32 false N L) false (c * u) L
       (sub-fits binary64 (add binary64 x y) y)
       (fits-widens (round binary32 false N L) (round-fits binary32 false N L))
       (pow-pos 1074)
       (subst (λ (z : Float). HasValue z false (c * u) L) (sym left)
-      (round-exact binary64 false (c * u) L c (925 + i) (pow-pos 1074) (small few) (within c (fewer few)) refl))
+      (round-exact binary64 false (c * u) L c (925 + i) (pow-pos 1074) (small few) (below-f64-end c (fewer few)) refl))
       (rescale (round binary32 false N L) false (c * 2 ^ i) (2 ^ 149) (c * u) L (pow-pos 149) (same c)
       (subst (λ (z : ℕ). HasValue (round binary32 false N L) false z (2 ^ 149)) narrow-grid
       (round-val binary32 N L (subst (λ (z : ℕ). z < 2 ^ 277) (sym narrow-grid) fine))))
@@ -203,31 +203,31 @@ module _ (N i : ℕ) (h : Place N i) where
       ge : (a b g : ℕ) → g ≡ a + b → b ≤ g
       ge a b g e = omega arith
 
-      powers : 2 ^ i * 2 ^ 1074 ≡ unit i * 2 ^ 149
+      powers : 2 ^ i * 2 ^ 1074 ≡ lastDigit i * 2 ^ 149
       powers = sym (pow-add 2 i 1074) ∙ ap (λ (x : ℕ). 2 ^ x) shift ∙ pow-add 2 (925 + i) 149
         where
           shift : i + 1074 ≡ 925 + i + 149
           shift = omega arith
 
-      same : (c : ℕ) → c * 2 ^ i * 2 ^ 1074 ≡ c * unit i * 2 ^ 149
-      same c = mul-assoc c (2 ^ i) (2 ^ 1074) ∙ ap (λ (x : ℕ). c * x) powers ∙ sym (mul-assoc c (unit i) (2 ^ 149))
+      same : (c : ℕ) → c * 2 ^ i * 2 ^ 1074 ≡ c * lastDigit i * 2 ^ 149
+      same c = mul-assoc c (2 ^ i) (2 ^ 1074) ∙ ap (λ (x : ℕ). c * x) powers ∙ sym (mul-assoc c (lastDigit i) (2 ^ 149))
 
 -- ---- where f32 ends: at 2 ^ 128 - 2 ^ 103, which is halfway from its greatest value to 2 ^ 128
 
 abbrev pub end : ℕ
 end = 33554431 * 2 ^ 1177
 
-pub in-range : (N i : ℕ) → Place N i → N < end → closest N (unit i) * 2 ^ i < 2 ^ 277
-in-range N i h l = go (native.Mathlib.Nat.eq-or-lt-of-le (h .most))
+pub rounded-below : (N i : ℕ) → Place N i → N < end → closest N (lastDigit i) * 2 ^ i < 2 ^ 277
+rounded-below N i h l = go (native.Mathlib.Nat.eq-or-lt-of-le (h .most))
   where
-    last : i ≡ 253 → closest N (unit 253) ≤ 16777215
+    last : i ≡ 253 → closest N (lastDigit 253) ≤ 16777215
     last e = closest-mono N (2 ^ 1178) (end - 1) (2 ^ 1178) (pow-pos 1178) (pow-pos 1178) (mul-le-mul-right (2 ^ 1178) (pred N end l))
       where
         pred : (a b : ℕ) → a < b → a ≤ b - 1
         pred a b g = omega arith
 
-    go : (i ≡ 253) ⊎ (i < 253) → closest N (unit i) * 2 ^ i < 2 ^ 277
-    go (inl e) = subst (λ (k : ℕ). closest N (unit k) * 2 ^ k < 2 ^ 277) (sym e) (lt-of-le-of-lt (mul-le-mul-right (2 ^ 253) (last e)) (lit< tt))
+    go : (i ≡ 253) ⊎ (i < 253) → closest N (lastDigit i) * 2 ^ i < 2 ^ 277
+    go (inl e) = subst (λ (k : ℕ). closest N (lastDigit k) * 2 ^ k < 2 ^ 277) (sym e) (lt-of-le-of-lt (mul-le-mul-right (2 ^ 253) (last e)) (lit< tt))
     go (inr g) = lt-of-le-of-lt (mul-le-mul (few N i h) (pow-mono (pred g))) (lit< tt)
       where
         pred : i < 253 → i ≤ 252

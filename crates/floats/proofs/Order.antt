@@ -10,7 +10,7 @@ use native.Mathlib.Omega.{arith}
 use borrow.Author.Tests.{le-ltb}
 use lib.Dec.{T, T-not, not-T, leb, ltb, eqb, leb→le, le→leb, ltb→lt, nltb→le, nleb→lt, lt→ltb, eqb→eq}
 use lib.IntN.{ℤ}
-use lib.Ieee.{Float, nan, inf, fin, isNan, up, down, below, level, lt, eq, le}
+use lib.Ieee.{Float, nan, inf, fin, Format, isNan, up, down, below, level, lt, eq, le, fits}
 use lib.Ieee.Fits.{and-i, and-l, and-r, eq→eqb, down-pos}
 use denote.Floats.{passes}
 use Rattle.folds.proofs.Tests.{same-test, yes-or-no, or-l, or-r, or-split}
@@ -263,6 +263,14 @@ max-nan nan = refl
 max-nan (inf s) = refl
 max-nan (fin s m e) = refl
 
+-- −infinity raises no number
+pub max-minus-infinity : (x : Float) → T (not (isNan x)) → maxNumber x (inf true) ≡ x
+unfolding maxNumber isNan lt
+max-minus-infinity nan p = absurd p
+max-minus-infinity (inf true) p = refl
+max-minus-infinity (inf false) p = refl
+max-minus-infinity (fin s m e) p = refl
+
 pub nan-max : (b : Float) → maxNumber nan b ≡ b
 unfolding maxNumber
 nan-max b = refl
@@ -289,8 +297,16 @@ min-le-left a b p = rw le-min (or-l (le a a) (le b a) (le-refl a p))
 pub min-le-right : (a b : Float) → T (not (isNan b)) → T (le (minNumber a b) b)
 min-le-right a b p = rw le-min (or-r (le a b) (le b b) (le-refl b p))
 
+pub min-number : (a b : Float) → T (not (isNan a)) → T (not (isNan (minNumber a b)))
+min-number a b h = le-left (minNumber a b) a (min-le-left a b h)
+
 pub max-ge-left : (a b : Float) → T (not (isNan a)) → T (le a (maxNumber a b))
 max-ge-left a b p = rw le-max (or-l (le a a) (le a b) (le-refl a p))
 
 pub max-ge-right : (a b : Float) → T (not (isNan b)) → T (le b (maxNumber a b))
 max-ge-right a b p = rw le-max (or-r (le b a) (le b b) (le-refl b p))
+
+-- ---- of the format
+
+pub min-fits : (f : Format) (a b : Float) → T (fits f a) → T (fits f b) → T (fits f (minNumber a b))
+min-fits f a b p q = elim (min-either a b) [ inl e ↦ rw e p | inr e ↦ rw e q ]

@@ -34,8 +34,8 @@ unfolding ofInt
 count-value n h = round-whole binary32 false n h
 
 -- the ratio of two counts up to 2^24 is one rounding
-pub ratio : (d t : ℕ) → d ≤ 2 ^ 24 → 0 < t → t ≤ 2 ^ 24 → div binary32 (ofInt binary32 (pos d)) (ofInt binary32 (pos t)) ≡ round binary32 false d t
-ratio d t h p k =
+pub one-rounding : (d t : ℕ) → d ≤ 2 ^ 24 → 0 < t → t ≤ 2 ^ 24 → div binary32 (ofInt binary32 (pos d)) (ofInt binary32 (pos t)) ≡ round binary32 false d t
+one-rounding d t h p k =
     div-at false false d 1 t 1 (lit≤ tt) (lit≤ tt) binary32 (ofInt binary32 (pos d)) (ofInt binary32 (pos t)) p (count-value d h) (count-value t k)
     ∙ rw (mul-one d, mul-one t)
 
@@ -97,7 +97,7 @@ ratio-at-most k K sharp d (suc t) p h q = go (leb (k * d) (suc t)) refl
     r = div binary32 (ofInt binary32 (pos d)) (ofInt binary32 (pos (suc t)))
 
     is : r ≡ round binary32 false d (suc t)
-    is = ratio d (suc t) h (zero-lt-suc t) (omega arith)
+    is = one-rounding d (suc t) h (zero-lt-suc t) (omega arith)
 
     go : (b : Bool) → leb (k * d) (suc t) ≡ b → le r (oneIn k) ≡ b
     go true e =

@@ -1,4 +1,4 @@
--- An f64 from 1/2 up to 2^53 has 53 digits, the first of them a one. Shifted by 1075 less the exponent field, they are
+-- An f64 from 1/2 up to 2^53 has 53 digits, the first of them a one. Shifted by 1075 minus the exponent field, they are
 -- its whole part: in units of 2 ^ -1074 the number N has its digits N / 2 ^ k, and N / 2 ^ k / 2 ^ (1074 - k) is
 -- N / 2 ^ 1074.
 use mathlib.Core.Path.{_≡_, refl, sym, ap, _∙_}
@@ -29,8 +29,8 @@ module _ (s : Bool) (m : ℕ) (e : ℤ) (p : T (fits binary64 (fin s m e))) wher
   value : HasValue (fin s m e) s N (2 ^ 1074)
   value = units-value binary64 s m e (in-format binary64 s m e p)
 
-  from-half : T (le half (fin s m e)) → gain false (1 * 2 ^ 1074) + loss s (N * 2) ≤ gain s (N * 2) + loss false (1 * 2 ^ 1074)
-  from-half h = leb→le _ _ (rw (le-at false s 1 2 N (2 ^ 1074) (lit≤ tt) (pow-pos 1074) half (fin s m e) (refl, refl) value) at h)
+  units-from-half : T (le half (fin s m e)) → gain false (1 * 2 ^ 1074) + loss s (N * 2) ≤ gain s (N * 2) + loss false (1 * 2 ^ 1074)
+  units-from-half h = leb→le _ _ (rw (le-at false s 1 2 N (2 ^ 1074) (lit≤ tt) (pow-pos 1074) half (fin s m e) (refl, refl) value) at h)
 
   to-2-53 : T (lt (fin s m e) (fin false 1 (pos 53))) → T (below s (N * 1) false (2 ^ 53 * 2 ^ 1074))
   to-2-53 h = rw (lt-at s false N (2 ^ 1074) (2 ^ 53) 1 (pow-pos 1074) (lit≤ tt) (fin s m e) (fin false 1 (pos 53)) value (refl, refl)) at h
@@ -61,8 +61,8 @@ module _ (b n : ℕ) (least : 1074 ≤ size n) (most : size n ≤ 1127)
       let all : k + (1074 - k) ≡ 1074 = omega arith in
       rw (digits, places) (shr-shr n k (1074 - k) ∙ ap (λ (j : ℕ). n / 2 ^ j) all)
 
--- the bits of x, as `whole_part` cuts them
-pub record Cut (x : Float) : Type 0 where
+-- the bits of x, as `whole_part` shifts them
+pub record ShiftedDigits (x : Float) : Type 0 where
   pub least : 1022 ≤ toBits binary64 x / 4503599627370496
   pub most : toBits binary64 x / 4503599627370496 ≤ 1075
   pub is : (toBits binary64 x % 4503599627370496 + 4503599627370496) / 2 ^ (1075 - toBits binary64 x / 4503599627370496) ≡ toUnsigned 64 x
@@ -70,19 +70,19 @@ pub record Cut (x : Float) : Type 0 where
 uncapped : (n : ℕ) → n < 2 ^ 53 → min n (2 ^ 64 - 1) ≡ n
 uncapped n h = omega arith
 
-pub cut : (x : Float) → T (fits binary64 x) → T (le half x) → T (lt x (fin false 1 (pos 53))) → Cut x
+pub shifted-digits : (x : Float) → T (fits binary64 x) → T (le half x) → T (lt x (fin false 1 (pos 53))) → ShiftedDigits x
 unfolding le lt
-cut nan p from to = absurd from
-cut (inf true) p from to = absurd from
-cut (inf false) p from to = absurd to
-cut (fin true m e) p from to = absurd (no-less (2 ^ 1074) (pow-pos 1074) (from-half true m e p from))
+shifted-digits nan p from to = absurd from
+shifted-digits (inf true) p from to = absurd from
+shifted-digits (inf false) p from to = absurd to
+shifted-digits (fin true m e) p from to = absurd (no-less (2 ^ 1074) (pow-pos 1074) (units-from-half true m e p from))
   where
     no-less : (a : ℕ) → 0 < a → 1 * a + unitsOf binary64 m e * 2 ≤ 0 → ⊥
     no-less a h l = omega arith
-cut (fin false m e) p from to =
+shifted-digits (fin false m e) p from to =
     let n = unitsOf binary64 m e in
     let small : n * 1 < 2 ^ 53 * 2 ^ 1074 = ltb→lt _ _ (to-2-53 false m e p to) in
-    let least = digits-least n (from-half false m e p from) in
+    let least = digits-least n (units-from-half false m e p from) in
     let most = digits-most n small in
     let field = exponent m e in
     let under : n / 2 ^ 1074 < 2 ^ 53 = div-lt-iff-lt-mul (pow-pos 1074) .1 (rw mul-one at small) in

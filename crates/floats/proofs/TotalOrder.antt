@@ -315,13 +315,13 @@ unfolding orderKey
 key-nan f x e = rw (differs-from-itself x (passes _ e))
 
 -- the key from the bits: r without the sign, upwards from the middle, or downwards where the sign q is 1
-abbrev pub signed : ℕ → ℕ → ℕ
-signed t b = b % t + t - b / t * (b % t + b % t + 1)
+abbrev pub signPart : ℕ → ℕ → ℕ
+signPart t b = b % t + t - b / t * (b % t + b % t + 1)
 
-pub key-split : (f : Format) (x : Float) → T (fits f x) → orderKey f x ≡ signed (top f) (toBits f x)
+pub key-split : (f : Format) (x : Float) → T (fits f x) → orderKey f x ≡ signPart (top f) (toBits f x)
 key-split f x p = key-is f x ∙ go (top f) (negative x) (toBits f (absolute x)) (toBits f x) (bits-sign f x) (magnitude-lt f x p)
   where
-    go : (t : ℕ) (s : Bool) (a b : ℕ) → b ≡ cond s t 0 + a → a < t → keyOf t s a ≡ signed t b
+    go : (t : ℕ) (s : Bool) (a b : ℕ) → b ≡ cond s t 0 + a → a < t → keyOf t s a ≡ signPart t b
     go t true a b e l =
         let i : b ≡ 1 * t + a = e ∙ rw one-mul in
         rw (i, digits-div 1 l, digits-mod 1 l, one-mul) (omega arith)
@@ -346,10 +346,10 @@ pub signed-below : (f : Format) (x : Float) → T (fits f x) → toBits f x / to
 signed-below f x p = omega (arith, signed-fits f x p, mod-lt (toBits f x) (top-pos f))
 
 -- where the number a stands to b
-abbrev pub ranked : ℕ → ℕ → Ordering
-ranked a b = cond (ltb a b) Less (cond (ltb b a) Greater Equal)
+abbrev pub comparedNumbers : ℕ → ℕ → Ordering
+comparedNumbers a b = cond (ltb a b) Less (cond (ltb b a) Greater Equal)
 
 -- two floats compare as their keys do
-pub compared-by-key : (f : Format) (x y : Float) (a b : ℕ) → T (fits f x) → T (fits f y) → a ≡ orderKey f x → b ≡ orderKey f y → compared x y ≡ ranked a b
+pub compared-by-key : (f : Format) (x y : Float) (a b : ℕ) → T (fits f x) → T (fits f y) → a ≡ orderKey f x → b ≡ orderKey f y → compared x y ≡ comparedNumbers a b
 unfolding compared
 compared-by-key f x y a b p q i j = rw (i, j, key-orders f x y p q, key-orders f y x q p)

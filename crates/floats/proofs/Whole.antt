@@ -61,8 +61,8 @@ large : (f : Format) (s : Bool) (m : ℕ) (e : ℤ) → T (fits f (fin s m e)) �
 large f s m e t h = let w = no-fraction f s m e t h in fixed f s m e (w .0) t (w .1)
 
 -- ---- the two tests that lead to an answer of x itself
-abbrev pub limit : Format → Bool → Float
-limit f s = fin s 1 (pos (prec f - 1))
+abbrev pub wholeLimit : Format → Bool → Float
+wholeLimit f s = fin s 1 (pos (prec f - 1))
 
 bare : (p a d : ℕ) → ltb (a * 1) (1 * p * d) ≡ false → p * d ≤ a
 bare p a d h = rw (one-mul, mul-one) at (ltb-false (a * 1) (1 * p * d) h)
@@ -72,7 +72,7 @@ never : (p a d : ℕ) → 0 < p → 0 < d → ltb 0 (1 * p * d + a * 1) ≡ fals
 never p a d P D h = omega (arith, ltb-false 0 (1 * p * d + a * 1) h, one-mul p, mul-pos P D)
 
 -- x from the limit on, a NaN and +infinity included
-pub floor-above : (f : Format) (x : Float) → T (fits f x) → lt x (limit f false) ≡ false → x ≡ floored f x
+pub floor-above : (f : Format) (x : Float) → T (fits f x) → lt x (wholeLimit f false) ≡ false → x ≡ floored f x
 unfolding lt floored
 floor-above f nan t h = refl
 floor-above f (inf s) t h = refl
@@ -80,7 +80,7 @@ floor-above f (fin true m e) t h = absurd (never (2 ^ (prec f - 1)) (m * up e) (
 floor-above f (fin false m e) t h = sym (large f false m e t (bare (2 ^ (prec f - 1)) (m * up e) (down e) h))
 
 -- x down from the negative limit, a NaN and −infinity included
-pub floor-below : (f : Format) (x : Float) → T (fits f x) → lt (limit f true) x ≡ false → x ≡ floored f x
+pub floor-below : (f : Format) (x : Float) → T (fits f x) → lt (wholeLimit f true) x ≡ false → x ≡ floored f x
 unfolding lt floored
 floor-below f nan t h = refl
 floor-below f (inf s) t h = refl
@@ -135,12 +135,12 @@ not-above : (s : Bool) (a b : ℕ) → a ≤ b → below s a false b ≡ false �
 not-above false a b h l = omega (arith, ltb-false a b l)
 not-above true a b h l = omega (arith, ltb-false 0 (a + b) l)
 
--- one less than −q
-one-less : (f : Format) (q : ℕ) → q ≤ 2 ^ prec f → sub f (ofInt f (negℤ (pos q))) (fin false 1 (pos 0)) ≡ round f true (q + 1) 1
+-- −q minus one
+minus-one : (f : Format) (q : ℕ) → q ≤ 2 ^ prec f → sub f (ofInt f (negℤ (pos q))) (fin false 1 (pos 0)) ≡ round f true (q + 1) 1
 unfolding sub ofInt
-one-less binary32 zero h = unfold round in refl
-one-less binary64 zero h = unfold round in refl
-one-less f (suc k) h =
+minus-one binary32 zero h = unfold round in refl
+minus-one binary64 zero h = unfold round in refl
+minus-one f (suc k) h =
     add-at f (round f true (suc k) 1) (fin true 1 (pos 0)) true (suc k) 1 1 1 (lit≤ tt) (lit≤ tt) (round-whole f true (suc k) h) (refl, refl)
     ∙ rw (mul-one (suc k))
 
@@ -175,7 +175,7 @@ module _ (f : Format) (m : ℕ) (e : ℤ) (q : ℕ) (is : m * up e / down e ≡ 
       let over : m * up e < q * down e + down e = rw is at (lt-div-mul-add {a = m * up e} (down-pos e)) in
       let under : q * down e < m * up e * 1 = lt-of-le-ne at-most (differ true h) in
       let up-one : ceiling (m * up e) (down e) ≡ q + 1 = ceiling-is (q + 1) (m * up e) (down e) (rw add-mul (omega arith)) (rw add-mul (omega arith)) in
-      one-less f q fine ∙ sym (floored-is f true m e ∙ ap (λ (z : ℕ). round f true z 1) up-one)
+      minus-one f q fine ∙ sym (floored-is f true m e ∙ ap (λ (z : ℕ). round f true z 1) up-one)
 
   below-limit : (s : Bool) → T (fits f (fin s m e)) → Cut f (fin s m e) (signed s q)
   below-limit s t = record {
@@ -192,7 +192,7 @@ Inside f nan = ⊥
 Inside f (inf s) = ⊥
 Inside f (fin s m e) = m * up e < 2 ^ (prec f - 1) * down e
 
-pub inside : (f : Format) (x : Float) → lt x (limit f false) ≡ true → lt (limit f true) x ≡ true → Inside f x
+pub inside : (f : Format) (x : Float) → lt x (wholeLimit f false) ≡ true → lt (wholeLimit f true) x ≡ true → Inside f x
 unfolding lt
 inside f nan h k = absurd (false≢true h)
 inside f (inf true) h k = absurd (false≢true k)

@@ -1,4 +1,4 @@
--- Zeros: adding one changes no number but −0, a product with one is a zero, and so is a number less one that it equals.
+-- Zeros: adding one changes no number but −0, a product with one is a zero, and so is a number minus an equal one.
 use mathlib.Core.Path.{_≡_, refl, sym, _∙_, subst}
 use mathlib.Core.Logic.{_⊎_, inl, inr}
 use mathlib.Core.Bool.{Bool, true, false, not, _&&_, _||_, Bool·beq}
@@ -8,7 +8,7 @@ use native.Mathlib.Omega.{arith}
 use borrow.Author.Tests.{lt-ltb, le-ltb}
 use lib.Dec.{T, eqb, eqb→eq, ltb→lt, lt→ltb}
 use lib.IntN.{ℤ, pos}
-use lib.Ieee.{Float, nan, inf, fin, Format, binary32, binary64, up, down, unlike, level, round, sum, add, sub, neg, mul, lt, eq, fits}
+use lib.Ieee.{Float, nan, inf, fin, Format, binary32, binary64, up, down, unlike, level, round, ofInt, sum, add, sub, neg, mul, lt, eq, fits}
 use lib.Ieee.Fits.{up-pos, down-pos, and-i, and-l, and-r, eq→eqb}
 use lib.Ieee.Scale.{round-same, finite}
 use Rattle.folds.proofs.Tests.{or-r}
@@ -108,7 +108,7 @@ module _ (f : Format) where
   pub mul-plus-zero : (m : ℕ) (e : ℤ) → mul f (fin false m e) plusZero ≡ plusZero
   mul-plus-zero m e = mul-is f false m e false 0 (pos 0) ∙ rw mul-zero (round-zero f false (down e * 1) (omega (arith, mul-one (down e), down-pos e)))
 
-  -- a number less itself
+  -- a number minus itself
   sum-self : (s : Bool) (a c : ℕ) → 0 < c → sum f s a (not s) a c ≡ plusZero
   unfolding sum
   sum-self true a c C = rw (le-ltb a a (le-refl a), nat-sub-self) (round-zero f false c C)
@@ -118,7 +118,7 @@ module _ (f : Format) where
   unfolding sub neg
   sub-self s m e = add-is f s m e (not s) m e ∙ sum-self s (m * up e * down e) (down e * down e) (mul-pos (down-pos e) (down-pos e))
 
-  -- and less one that it equals
+  -- and minus an equal one
   sum-level : (s t : Bool) (a b c : ℕ) → 0 < c → T (level s a t b) → (r : Bool) × (sum f t b (not s) a c ≡ fin r 0 (pos 0))
   sum-level s t a b c C h = go s t (and-r (eqb a b) (Bool·beq s t || eqb a 0) h)
     where
@@ -139,6 +139,14 @@ module _ (f : Format) where
   sub-level (fin s m e) (inf t) p h = absurd h
   sub-level (fin s m e) (fin t n d) p h =
       sum-level s t (m * up e * down d) (n * up d * down e) (down d * down e) (mul-pos (down-pos d) (down-pos e)) h
+
+-- 0, converted, times a positive number
+pub zero-mul-positive : (x : Float) → T (lt plusZero x) → T (finite x) → mul binary64 (ofInt binary64 (pos 0)) x ≡ plusZero
+unfolding ofInt lt
+zero-mul-positive nan p q = absurd p
+zero-mul-positive (inf s) p q = absurd q
+zero-mul-positive (fin true n d) p q = absurd p
+zero-mul-positive (fin false n d) p q = plus-zero-mul binary64 false n d
 
 -- ---- −0 and +0 compare alike
 
@@ -161,11 +169,11 @@ plus-zero-lt (fin true m e) t = lt→ltb 0 (m * up e * 1 + 0 * down e) (omega (a
 -- ---- 0 + y is y but for its sign where it is −0, and that is lost in x − y for an x below y
 
 -- a zero of either sign, taken from a number that is none
-less-zero : (f : Format) (x : Float) → T (fits f x) → T (lt x minusZero) → sub f x plusZero ≡ sub f x minusZero
+minus-either-zero : (f : Format) (x : Float) → T (fits f x) → T (lt x minusZero) → sub f x plusZero ≡ sub f x minusZero
 unfolding sub neg lt
-less-zero f nan t h = absurd h
-less-zero f (inf s) t h = refl
-less-zero f (fin s m e) t h = add-plus-zero f s m e true t none ∙ sym (add-plus-zero f s m e false t none)
+minus-either-zero f nan t h = absurd h
+minus-either-zero f (inf s) t h = refl
+minus-either-zero f (fin s m e) t h = add-plus-zero f s m e true t none ∙ sym (add-plus-zero f s m e false t none)
   where
     none : fin s m e ≡ minusZero → ⊥
     none k = subst (λ (x : Float). T (lt x minusZero)) k h
@@ -173,5 +181,5 @@ less-zero f (fin s m e) t h = add-plus-zero f s m e true t none ∙ sym (add-plu
 pub sub-plus-zero-add : (f : Format) (x y : Float) → T (fits f x) → T (fits f y) → T (lt x y) → sub f x (add f plusZero y) ≡ sub f x y
 sub-plus-zero-add f x y t u h = elim (plus-zero-add f y u) [
   | inl k ↦ rw k
-  | inr k ↦ rw (k .1, k .0) (less-zero f x t (rw (k .0) at h))
+  | inr k ↦ rw (k .1, k .0) (minus-either-zero f x t (rw (k .0) at h))
 ]

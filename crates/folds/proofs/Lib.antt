@@ -3,3 +3,4 @@ pub mod Walks
 pub mod Writing
 pub mod Stores
 pub mod Folds
+pub mod Parts

@@ -1,7 +1,8 @@
 -- Tests, which are Bools, and what they say.
 use mathlib.Core.Path.{_≡_, refl}
 use mathlib.Core.Logic.{_⊎_, inl, inr}
-use Prim.Native.Nat.{ℕ, _≤_, _<_}
+use Prim.Native.Nat.{ℕ, suc, _+_, _≤_, _<_}
+use native.Mathlib.Omega.{arith}
 use mathlib.Core.Bool.{Bool, true, false, not, cond, _&&_, _||_, false≢true}
 use lib.Dec.{T, ltb, ltb→lt, nltb→le, lit≤}
 use mir.Val.{boolByte}
@@ -53,3 +54,7 @@ byte-is false = refl
 pub byte-most : (b : Bool) → boolByte b ≤ 1
 byte-most true = lit≤ tt
 byte-most false = lit≤ tt
+
+pub byte-added : (b : Bool) (n : ℕ) → n + boolByte b ≡ cond b (suc n) n
+byte-added true n = omega arith
+byte-added false n = omega arith

@@ -16,8 +16,8 @@ use Rattle.folds.specs.Walks.{steps, forRange, forRangeDown, first, find
 none-left : (j n : ℕ) → n ≤ j → n - j ≡ 0
 none-left j n h = omega arith
 
-one-less : (j n : ℕ) → j < n → n - j ≡ suc (n - suc j)
-one-less j n h = omega arith
+minus-next : (j n : ℕ) → j < n → n - j ≡ suc (n - suc j)
+minus-next j n h = omega arith
 
 -- ---- upwards
 
@@ -40,7 +40,7 @@ module _ {S : Type 0} (f : ℕ → S → S) where
   steps-more a k l s e = ap (λ (x : ℕ). steps f a x s) e
 
   pub for-range-step : (j n : ℕ) (s : S) → j < n → forRange f j n s ≡ forRange f (j + 1) n (f j s)
-  for-range-step j n s h = steps-more j (n - j) (n - suc j) s (one-less j n h) ∙ ap (λ (x : ℕ). steps f x (n - x) (f j s)) (sym (add-one j))
+  for-range-step j n s h = steps-more j (n - j) (n - suc j) s (minus-next j n h) ∙ ap (λ (x : ℕ). steps f x (n - x) (f j s)) (sym (add-one j))
 
   pub for-range-done : (j n : ℕ) (s : S) → n ≤ j → forRange f j n s ≡ s
   for-range-done j n s h = steps-none j (n - j) s (none-left j n h)
@@ -111,14 +111,14 @@ finding-step {p} {a} {j} {n} w h e =
       high = omega arith;
       is = ap (λ (x : ℕ). first p x (n - x)) (add-one j)
           ∙ sym (ap (λ (b : Bool). cond b j (first p (suc j) (n - suc j))) e)
-          ∙ sym (first-more p j (n - j) (n - suc j) (one-less j n h))
+          ∙ sym (first-more p j (n - j) (n - suc j) (minus-next j n h))
           ∙ w .is;
     }
 
 pub finding-found : {p : ℕ → Bool} {a j n : ℕ} → Finding p a j n → j < n → p j ≡ true → j ≡ findInRange p a n
 finding-found {p} {a} {j} {n} w h e =
     sym (ap (λ (b : Bool). cond b j (first p (suc j) (n - suc j))) e)
-    ∙ sym (first-more p j (n - j) (n - suc j) (one-less j n h))
+    ∙ sym (first-more p j (n - j) (n - suc j) (minus-next j n h))
     ∙ w .is
 
 pub finding-none : {p : ℕ → Bool} {a j n : ℕ} → Finding p a j n → n ≤ j → j ≡ findInRange p a n

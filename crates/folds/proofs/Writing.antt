@@ -6,12 +6,12 @@ use Prim.Native.Nat.{ℕ, zero, suc, _+_, _≤_, _<_, zero-le}
 use native.Mathlib.Nat.{not-suc-le-zero, le-of-suc-le-suc, lt-of-lt-of-le, ne-of-lt, ne-of-gt, le-refl, zero-add, add-comm, add-suc, suc-add}
 use native.Mathlib.Numerals.{add-one}
 use native.Mathlib.Omega.{arith}
-use mathlib.Core.Bool.{cond}
-use lib.Dec.{ltb}
+use mathlib.Core.Bool.{Bool, true, false, cond}
+use lib.Dec.{ltb, eqb}
 use lib.ListN.{length, take, set, getD, replicate, length-set}
 use lib.Seq.{take-suc-set, getD-set-same, getD-set-other, ext-getD}
 use borrow.Author.Count.{below-more}
-use borrow.Author.Tests.{lt-ltb, le-ltb}
+use borrow.Author.Tests.{lt-ltb, le-ltb, eqb-true, eqb-false}
 use Rattle.folds.proofs.Tests.{lt-or-ge}
 use Rattle.folds.specs.Lists.{filled, tabulated}
 use Rattle.folds.specs.Inner.All.{All}
@@ -25,6 +25,14 @@ module _ {A : Type 0} where
 
   pub front-write : (k : ℕ) (l rest : List A) (a : A) → k < length l → take (k + 1) (set l k a) ++ rest ≡ take k l ++ (a ∷ rest)
   front-write k l rest a h = rw (add-one, take-suc-set l k a, append-assoc)
+
+  -- what a column reads after a store
+  pub set-reads : (column : List A) (n : ℕ) (v : A) (i : ℕ) (d : A) → n < length column → getD (set column n v) i d ≡ cond (eqb n i) v (getD column i d)
+  set-reads column n v i d h = go (eqb n i) (eqb-true n i) (eqb-false n i)
+    where
+      go : (b : Bool) → (b ≡ true → n ≡ i) → (b ≡ false → n ≡ i → ⊥) → getD (set column n v) i d ≡ cond b v (getD column i d)
+      go true e o = ap (λ (m : ℕ). getD (set column n v) m d) (sym (e refl)) ∙ getD-set-same column n v d h
+      go false e o = getD-set-other column n i v d (λ p. o refl (sym p))
 
 -- ---- tabulated columns
 
@@ -84,6 +92,10 @@ pub tabulated-constant : {A : Type 0} (f : ℕ → A) (v : A) → ((i : ℕ) →
 unfolding tabulated
 tabulated-constant f v h a zero = refl
 tabulated-constant {A} f v h a (suc k) = rw (h a, tabulated-constant f v h (suc a) k)
+
+-- a column of blanks
+pub tabulated-blank : {A : Type 0} (f : ℕ → A) (v : A) (column : List A) (n : ℕ) → ((i : ℕ) → f i ≡ v) → length column ≡ n → tabulated f 0 n ≡ filled v column
+tabulated-blank f v column n e l = tabulated-constant f v e 0 n ∙ ap (λ (k : ℕ). replicate k v) (sym l)
 
 tabulated-shift : {A : Type 0} (f : ℕ → A) (a k : ℕ) → tabulated f (suc a) k ≡ tabulated (λ (i : ℕ). f (suc i)) a k
 unfolding tabulated
@@ -198,3 +210,8 @@ module _ {A : Type 0} (P : A → Type 0) where
   all-at d [] w i h = absurd (not-suc-le-zero h)
   all-at d (x ∷ xs) w zero h = w .0
   all-at d (x ∷ xs) w (suc i) h = all-at d xs (w .1) i (le-of-suc-le-suc h)
+
+  pub all-set : (xs : List A) (i : ℕ) (v : A) → All P xs → P v → All P (set xs i v)
+  all-set [] i v w h = tt
+  all-set (x ∷ xs) zero v w h = (h, w .1)
+  all-set (x ∷ xs) (suc i) v w h = (w .0, all-set xs i v (w .1) h)

@@ -4,41 +4,28 @@ use mathlib.Core.Path.{_≡_, refl, sym, ap, _∙_, subst}
 use mathlib.Core.List.{[], _∷_}
 use mathlib.Core.Logic.{_⊎_, inl, inr}
 use mathlib.Core.Bool.{true, false, cond}
-use Prim.Native.Nat.{ℕ, zero, suc, _-_, _^_, _≤_, _<_}
+use Prim.Native.Nat.{ℕ, zero, suc, _≤_, _<_}
 use native.Mathlib.Omega.{arith}
 use lib.Dec.{T, ltb, ltb→lt}
-use lib.Ieee.{Float, binary64, ofBits, round, mul, le, neg}
+use lib.Ieee.{Float, binary64, ofBits, round, mul, le}
 use lib.Ieee.Bits.{is-true}
 use Rattle.folds.specs.Lists.{tabulated}
 use Rattle.folds.specs.Walks.{every}
 use Rattle.folds.proofs.Tests.{lt-or-ge}
 use Rattle.folds.proofs.Walks.{every-at}
-use Rattle.floats.specs.Constants.{f64Min, f64One, f64Zero}
+use Rattle.floats.specs.Constants.{f64One}
 use Rattle.gauss.specs.Elimination.{small}
 use Rattle.gauss.specs.Solutions.{ten, epsilon, tries}
 
 -- ---- the literals
 
-pub zero-is : f64Zero ≡ round binary64 false 0 1
-unfolding round ofBits
-zero-is = refl
-
 pub small-is : small ≡ round binary64 false 1 100000000
 unfolding round ofBits
 small-is = refl
 
-pub one-is : f64One ≡ round binary64 false 1 1
-unfolding round ofBits
-one-is = refl
-
 pub ten-is : ten ≡ round binary64 false 10 1
 unfolding round ofBits
 ten-is = refl
-
--- f64::MIN is −(2^1024 − 2^971)
-pub minimum-is : f64Min ≡ round binary64 true (2 ^ 1024 - 2 ^ 971) 1
-unfolding round ofBits neg
-minimum-is = refl
 
 -- ---- the tries
 

@@ -1,5 +1,5 @@
 pub mod Tables
-pub mod Rows
+pub mod RowWalks
 pub mod Epsilons
 pub mod Solving
 pub mod Meaning

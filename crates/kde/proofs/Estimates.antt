@@ -17,10 +17,10 @@ use lib.Ieee.Back.{round-whole}
 use Rattle.folds.proofs.Tests.{or-split}
 use Rattle.floats.specs.Signs.{negative}
 use Rattle.floats.proofs.Nans.{add-nan, sub-nan, mul-nan, div-nan, nan-sub, nan-div}
-use Rattle.floats.proofs.Zeros.{plusZero, minusZero, plus-zero-add, add-plus-zero, add-minus-zero, plus-zero-mul, mul-plus-zero}
+use Rattle.floats.proofs.Zeros.{plusZero, minusZero, plus-zero-add, add-plus-zero, add-minus-zero, plus-zero-mul, mul-plus-zero, zero-mul-positive}
 use Rattle.floats.proofs.Zeros.{sub-self, sub-level, plus-zero-eq, plus-zero-lt, sub-plus-zero-add}
 use Rattle.floats.proofs.Differences.{sub-lt}
-use Rattle.floats.proofs.Infinities.{above, under, off-div, off-mul, never-finite, level-div, zero-mul-infinite, add-infinite, infinite-less}
+use Rattle.floats.proofs.Infinities.{above, off-below-zero, off-div, off-mul, never-finite, level-div, zero-mul-infinite, add-infinite, infinite-minus}
 use Rattle.floats.proofs.Convert.{under-div}
 use Rattle.kde.specs.declared.Estimator.{Estimator}
 use Rattle.kde.specs.Bins.{binScore}
@@ -100,7 +100,7 @@ module _ (e : Estimator) (bins : List Float) (score : Float) (past : lastOf bins
 
 pub score-infinite : (e : Estimator) (bins : List Float) (s : Bool) → lastOf bins ≤ stepsUp e (inf s) → posteriorError e bins (inf s) ≡ nan
 score-infinite e bins s h =
-    past-last-nan e bins (inf s) h (rw (infinite-less binary64 s (binScore e (lastOf bins)) (e .«score_step»)) (and-false (finite (lastBin bins))))
+    past-last-nan e bins (inf s) h (rw (infinite-minus binary64 s (binScore e (lastOf bins)) (e .«score_step»)) (and-false (finite (lastBin bins))))
 
 -- ---- a NaN score, least score or step
 
@@ -125,22 +125,14 @@ step-nan e bins score h = all-nan e bins score (λ bin l. rw (h, div-nan))
 
 -- ---- "A score under the first bin is extrapolated": on the line through the first two bins
 
--- 0 · step
-no-steps : (step : Float) → T (lt plusZero step) → T (finite step) → mul binary64 (ofInt binary64 (pos 0)) step ≡ plusZero
-unfolding ofInt lt
-no-steps nan p q = absurd p
-no-steps (inf s) p q = absurd q
-no-steps (fin true n d) p q = absurd p
-no-steps (fin false n d) p q = plus-zero-mul binary64 false n d
-
 pub under-first : (e : Estimator) (bins : List Float) (score : Float) → T (fits binary64 score) → T (fits binary64 (e .«min_score»))
     → T (lt plusZero (e .«score_step»)) → T (finite (e .«score_step»)) → T (lt score (e .«min_score»))
     → posteriorError e bins score ≡ interpolated (firstBin bins) (secondBin bins) (quotient e score)
 under-first e bins score t u p q h =
     let least = e .«min_score» in
     let step = e .«score_step» in
-    first-used e bins score (steps-are e score ∙ under-div 64 binary64 step (under (sub binary64 score least) (sub-lt binary64 score least t u h .0)) p)
-    ∙ rw (no-steps step p q, sub-plus-zero-add binary64 score least t u h)
+    first-used e bins score (steps-are e score ∙ under-div 64 binary64 step (off-below-zero (sub binary64 score least) (sub-lt binary64 score least t u h .0)) p)
+    ∙ rw (zero-mul-positive step p q, sub-plus-zero-add binary64 score least t u h)
 
 -- ---- "Step +0 gives NaN for a score at or above the least; under it, on finite bins, the same formula gives an
 -- infinity, or NaN where the first two bins are equal or there is one bin."
@@ -191,9 +183,9 @@ module _ (e : Estimator) (bins : List Float) (score : Float) (t : T (fits binary
   flat-under : T (lt score (e .«min_score»)) → posteriorError e bins score ≡ interpolated (firstBin bins) (secondBin bins) (inf true)
   unfolding toUnsigned
   flat-under h =
-      let q = off-div binary64 (under (sub binary64 score (e .«min_score»)) (sub-lt binary64 score (e .«min_score») t u h .0)) in
+      let q = off-div binary64 (off-below-zero (sub binary64 score (e .«min_score»)) (sub-lt binary64 score (e .«min_score») t u h .0)) in
       let first = add binary64 plusZero (e .«min_score») in
-      let k = off-div binary64 (under (sub binary64 score first) (sub-lt binary64 score first t (add-fits binary64 plusZero (e .«min_score»)) (first-lt h) .0)) in
+      let k = off-div binary64 (off-below-zero (sub binary64 score first) (sub-lt binary64 score first t (add-fits binary64 plusZero (e .«min_score»)) (first-lt h) .0)) in
       first-used e bins score (rw (steps-are, flat, q)) ∙ rw (flat-factor 0 (omega arith), k)
 
 -- two finite bins on a line of infinite slope, to the left of it
@@ -206,7 +198,7 @@ steep : (first second : Float) → T (fits binary64 first) → T (fits binary64 
 steep first second t u p = record {
   level = λ h. let z = sub-level binary64 first second p h in rw (z .1, zero-mul-infinite binary64 (z .0) true) (add-nan binary64 first);
   rising = λ h. rw (off-mul binary64 true (above (sub binary64 second first) (sub-lt binary64 first second t u h .1))) (add-infinite binary64 first true p);
-  falling = λ h. rw (off-mul binary64 true (under (sub binary64 second first) (sub-lt binary64 second first u t h .0))) (add-infinite binary64 first false p);
+  falling = λ h. rw (off-mul binary64 true (off-below-zero (sub binary64 second first) (sub-lt binary64 second first u t h .0))) (add-infinite binary64 first false p);
 }
 
 module _ (e : Estimator) (bins : List Float) (score : Float) (t : T (fits binary64 score)) (u : T (fits binary64 (e .«min_score»))) (flat : e .«score_step» ≡ plusZero)

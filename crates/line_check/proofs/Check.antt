@@ -29,8 +29,8 @@ rate-small OneIn100 = omega arith
 rate-small OneIn20 = omega arith
 
 -- what the questions let pass
-pub asked : (labels line : ℕ) → lineAsked labels line ≡ Accepted → (labels ≤ longest) × (line ≤ labels)
-asked labels line e =
+pub line-lengths : (labels line : ℕ) → lineAsked labels line ≡ Accepted → (labels ≤ longest) × (line ≤ labels)
+line-lengths labels line e =
     let short = met (leb labels longest) TooLong _ e in
     let listed = met (leb line labels) PastTheEnd _ (short .1) in
     (leb→le labels longest (rw (short .0) tt), leb→le line labels (rw (listed .0) tt))
@@ -60,14 +60,14 @@ module _ (per : ℕ) (labels : List ℤ) (line : ℕ) where
 
   -- ---- accepted
 
-  module _ (short : length labels ≤ longest) (within : line ≤ length labels) where
+  module _ (short : length labels ≤ longest) (listed : line ≤ length labels) where
     accepted : lineAnswer per labels line ≡ judgement per labels line
     unfolding lineAnswer
-    accepted = rw (le-leb (length labels) longest short, le-leb line (length labels) within)
+    accepted = rw (le-leb (length labels) longest short, le-leb line (length labels) listed)
 
     -- a right line is answered with its own three numbers
     pub right-answered : RightLine per labels line → lineAnswer per labels line ≡ Right (countsAt labels line)
-    right-answered r = accepted ∙ right-judged (right-line-only per labels line r within)
+    right-answered r = accepted ∙ right-judged (right-line-only per labels line r listed)
 
     -- any other with those of the last later row that qualifies, or of the line itself
     pub wrong-answered : (RightLine per labels line → ⊥) → lineAnswer per labels line ≡ Wrong (countsAt labels (max line (rightLine per labels)))

@@ -14,7 +14,7 @@ use mir.Val.{Fits}
 use Rattle.counting.specs.Labels.{decoys, targets}
 use Rattle.counting.specs.Lines.{qualifies, lastRow, rightLine}
 use Rattle.counting.proofs.Labels.{row-counts}
-use Rattle.counting.proofs.Lines.{last-next, last-within}
+use Rattle.counting.proofs.Lines.{last-next, last-in-list}
 use Rattle.counting.proofs.Tally.{Tally}
 use Rattle.line_check.specs.Check.{countsAt}
 use Rattle.line_check.specs.declared.Counts.{Counts}
@@ -37,9 +37,9 @@ module _ (labels : List ℤ) {c : Counts} (row : ℕ) (h : row ≤ length labels
   decoys-small s = omega (arith, ap (λ (x : Counts). x .«decoys_plus_one») e, row-counts row labels)
 
 -- the counts before the first row
-pub row-zero : (labels : List ℤ) → _≡_ {A = Counts} (record { row = 0; «decoys_plus_one» = 1; targets = 0 }) (countsAt labels 0)
+pub counts-at-zero : (labels : List ℤ) → _≡_ {A = Counts} (record { row = 0; «decoys_plus_one» = 1; targets = 0 }) (countsAt labels 0)
 unfolding decoys targets
-row-zero labels = refl
+counts-at-zero labels = refl
 
 pub after-row-zero : (per : ℕ) (labels : List ℤ) → countsAt labels (max 0 (rightLine per labels)) ≡ countsAt labels (rightLine per labels)
 after-row-zero per labels = let e : max 0 (rightLine per labels) ≡ rightLine per labels = omega arith in ap (countsAt labels) e
@@ -62,7 +62,7 @@ later-start per {labels} {line} t = record {
   past = le-refl line;
   so-far = t;
   at-last = t;
-  is = omega (arith, last-within (qualifies per labels) line);
+  is = omega (arith, last-in-list (qualifies per labels) line);
 }
 
 module _ {per : ℕ} {labels : List ℤ} {line last last-decoy last-target decoy target i decoy′ target′ : ℕ}

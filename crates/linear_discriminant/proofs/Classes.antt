@@ -13,7 +13,7 @@ use mir.Syntax.{w32}
 use mir.Val.{ofZ, toZ, boolByte}
 use mir.ValLaws.{toZ-ofZ}
 use Rattle.counting.specs.Labels.{isDecoy, decoys, targets}
-use Rattle.counting.proofs.Labels.{both}
+use Rattle.counting.proofs.Labels.{decoys-and-targets}
 use Rattle.counting.proofs.Tally.{label-test}
 use Rattle.gauss.specs.Elimination.{Matrix, row}
 use Rattle.linear_discriminant.specs.Fit.{classOf}
@@ -43,7 +43,7 @@ pub sum-turn : (features : List Float) (labels : List ℤ) (i : ℕ) (sums : Mat
 sum-turn features labels i sums {c} e f = ap (set sums c) f ∙ ap (λ (c : ℕ). set sums c (addedRow features i (row sums c))) e
 
 pub rest-targets : (labels : List ℤ) {d : ℕ} → d ≡ decoys labels → length labels - d ≡ targets labels
-rest-targets labels e = omega (arith, both labels)
+rest-targets labels e = omega (arith, decoys-and-targets labels)
 
 pub decoys-at-most : (labels : List ℤ) {d : ℕ} → d ≡ decoys labels → d ≤ length labels
-decoys-at-most labels e = omega (arith, both labels)
+decoys-at-most labels e = omega (arith, decoys-and-targets labels)

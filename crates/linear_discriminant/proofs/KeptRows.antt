@@ -23,13 +23,13 @@ use Rattle.folds.proofs.Walks.{for-range-last, for-range-same}
 use Rattle.folds.proofs.Stores.{stored-pair}
 
 -- any step h on the first m kept rows gives what it gives on the rows taken from a up to b
-abbrev pub Same : (ℕ → Bool) → (ℕ → Vector) → Matrix → ℕ → ℕ → ℕ → Type 0
-Same takes r rows m a b =
+abbrev pub KeptRowsAre : (ℕ → Bool) → (ℕ → Vector) → Matrix → ℕ → ℕ → ℕ → Type 0
+KeptRowsAre takes r rows m a b =
     (h : Vector → Float → Float) (sum : Float) → forRange (λ g. h (row rows g)) 0 m sum ≡ forRange (λ i s. cond (takes i) (h (r i) s) s) a b sum
 
 -- adding them brings the table from a to b
 abbrev pub Adds : (ℕ → Bool) → (ℕ → Vector) → (ℕ → Matrix) → Type 0
-Adds takes r state = (rows : Matrix) (m a b : ℕ) → a ≤ b → Same takes r rows m a b → keptAdded rows m (state a) ≡ state b
+Adds takes r state = (rows : Matrix) (m a b : ℕ) → a ≤ b → KeptRowsAre takes r rows m a b → keptAdded rows m (state a) ≡ state b
 
 pub record Kept (takes : ℕ → Bool) (r : ℕ → Vector) (state : ℕ → Matrix) (table rows : Matrix) (m i : ℕ) : Type 0 where
   pub from : ℕ
@@ -37,7 +37,7 @@ pub record Kept (takes : ℕ → Bool) (r : ℕ → Vector) (state : ℕ → Mat
   pub is : table ≡ state from
   pub tall : length rows ≡ 16
   pub few : m < 16
-  pub same : Same takes r rows m from i
+  pub same : KeptRowsAre takes r rows m from i
 
 pub kept-start : {takes : ℕ → Bool} {r : ℕ → Vector} {state : ℕ → Matrix} {table rows : Matrix} → table ≡ state 0 → length rows ≡ 16
     → Kept takes r state table rows 0 0
@@ -60,7 +60,7 @@ module _ {takes : ℕ → Bool} {r : ℕ → Vector} {state : ℕ → Matrix} {t
       record { from = w .from; low = omega arith; is = w .is; tall = w .tall; few = w .few; same = λ h s. sym (last h false e s) }
 
   -- a row of this class, in the next place
-  more : takes i ≡ true → {v : Vector} → v ≡ r i → Same takes r (set rows m v) (m + 1) (w .from) (i + 1)
+  more : takes i ≡ true → {v : Vector} → v ≡ r i → KeptRowsAre takes r (set rows m v) (m + 1) (w .from) (i + 1)
   more e {v} f h sum =
       for-range-last (λ g. h (row (set rows m v) g)) 0 m sum zero-le
       ∙ ap (h (row (set rows m v) m)) (for-range-same 0 m sum (λ g l u s. ap (λ (x : Vector). h x s) (getD-set-other rows m g v [] (ne-of-lt u))))
@@ -84,7 +84,7 @@ module _ {takes : ℕ → Bool} {r : ℕ → Vector} {state : ℕ → Matrix} {t
         low = le-refl (i + 1);
         is = t
             ∙ ap (keptAdded (set rows m v) 16) (w .is)
-            ∙ adds (set rows m v) 16 (w .from) (i + 1) (omega arith) (subst (λ (n : ℕ). Same takes r (set rows m v) n (w .from) (i + 1)) z (more e f));
+            ∙ adds (set rows m v) 16 (w .from) (i + 1) (omega arith) (subst (λ (n : ℕ). KeptRowsAre takes r (set rows m v) n (w .from) (i + 1)) z (more e f));
         tall = length-set rows m v ∙ w .tall;
         few = omega arith;
         same = λ h s. sym (none h s);

@@ -28,10 +28,10 @@ use Rattle.linear_discriminant.proofs.KeptRows.{Adds}
 
 -- ---- scatter is symmetric, bit for bit, since a product of floats commutes
 
-pub product-comm : (takes : ℕ → Bool) (features : List Float) (mu : ℕ → Float) (j k n : ℕ)
+pub scatter-sum-symmetric : (takes : ℕ → Bool) (features : List Float) (mu : ℕ → Float) (j k n : ℕ)
     → summed takes (centredProduct features mu j k) n ≡ summed takes (centredProduct features mu k j) n
 unfolding summed
-product-comm takes features mu j k n =
+scatter-sum-symmetric takes features mu j k n =
     for-range-same 0 n f64Zero
     (λ i l u s. ap (λ (x : Float). cond (takes i) (add binary64 s x) s) (product-commutes binary64 (sub binary64 (feature features i j) (mu j)) (sub binary64 (feature features i k) (mu k))))
 
@@ -121,4 +121,4 @@ module _ (features : List Float) (labels : List ℤ) (mean : List Float) (c : �
       go (inr p) =
           pick false (le-ltb (storedPlace j k) (storedWidth j) p)
           ∙ read k j l h (other-has j k h l p)
-          ∙ product-comm (inClass labels c) features mu k j n
+          ∙ scatter-sum-symmetric (inClass labels c) features mu k j n

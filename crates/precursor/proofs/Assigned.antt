@@ -1,16 +1,16 @@
 -- The pass from the last ranked row up: what its counters, its minimum, its count and its column hold when the rows
 -- from i on are done. The counts up to a row fall by that row at each turn, and the ratio at a row is theirs.
 use mathlib.Core.Path.{_≡_, refl, sym, ap, ap₂, _∙_}
-use mathlib.Core.List.{List, [], map}
+use mathlib.Core.List.{List, map}
 use mathlib.Core.Bool.{cond, _&&_}
 use Prim.Native.Nat.{ℕ, suc, _+_, _-_, _≤_, _<_, zero-le}
-use native.Mathlib.Nat.{le-refl}
+use native.Mathlib.Nat.{le-refl, le-of-eq}
 use native.Mathlib.Numerals.{add-one}
 use native.Mathlib.Omega.{arith}
 use lib.Dec.{eqb}
 use lib.IntN.{ℤ, pos}
-use lib.ListN.{length, getD, take, drop, set, length-map, length-set, List·getD-map}
-use lib.Seq.{drop-cons, take-length, take-all, drop-length}
+use lib.ListN.{length, getD, take, drop, set, length-map, length-set, List·getD-map, drop-of-length-le}
+use lib.Seq.{drop-cons, take-length, take-all}
 use lib.Ieee.{Float, nan, binary32, le, ofBits}
 use mir.Val.{boolByte}
 use Rattle.folds.proofs.Tests.{byte-most}
@@ -18,7 +18,7 @@ use Rattle.floats.specs.MinMax.{minNumber}
 use Rattle.floats.specs.Ratio.{oneIn}
 use Rattle.counting.specs.Labels.{isDecoy, decoys, targets}
 use Rattle.counting.specs.QValues.{ratio, ratioAt, ratios, minimum, qValues, targetsAtMost}
-use Rattle.counting.proofs.Labels.{both, decoys-next, targets-next}
+use Rattle.counting.proofs.Labels.{decoys-and-targets, decoys-next, targets-next}
 use Rattle.counting.proofs.RunningMinimum.{running-minimum-at}
 use Rattle.counting.proofs.QValues.{length-ratios, ratios-at, q-length}
 use Rattle.ranking.specs.Inner.Layout.{placeOf, decoyBit, labelOf}
@@ -34,37 +34,37 @@ module _ (keys : List ℕ) where
   length-labels : length labels ≡ length keys
   length-labels = length-map keys labelOf
 
-  pub decoys-step : (i : ℕ) → i < length keys → decoys (take (i + 1) labels) ≡ decoys (take i labels) + decoyBit (getD keys i 0)
-  decoys-step i h =
+  pub decoys-by-key : (i : ℕ) → i < length keys → decoys (take (i + 1) labels) ≡ decoys (take i labels) + decoyBit (getD keys i 0)
+  decoys-by-key i h =
       decoys-next labels i (pos 0) (omega (arith, length-labels))
       ∙ rw (List·getD-map labelOf keys i 0, bit-decoy (getD keys i 0))
 
-  pub targets-step : (i : ℕ) → i < length keys → targets (take (i + 1) labels) ≡ targets (take i labels) + (1 - decoyBit (getD keys i 0))
-  targets-step i h =
+  pub targets-by-key : (i : ℕ) → i < length keys → targets (take (i + 1) labels) ≡ targets (take i labels) + (1 - decoyBit (getD keys i 0))
+  targets-by-key i h =
       targets-next labels i (pos 0) (omega (arith, length-labels))
       ∙ rw (List·getD-map labelOf keys i 0, bit-target (getD keys i 0))
 
   pub all-counts : decoys labels + targets labels ≡ length keys
-  all-counts = both labels ∙ length-labels
+  all-counts = decoys-and-targets labels ∙ length-labels
 
 -- ---- the count of decoys, from the first row down
 
-pub record Counting (keys : List ℕ) (i decoy : ℕ) : Type 0 where
+pub record DecoysCounted (keys : List ℕ) (i decoy : ℕ) : Type 0 where
   pub high : i ≤ length keys
   pub few : decoy ≤ i
   pub is : decoy ≡ decoys (take i (labels keys))
 
-pub counting-start : (keys : List ℕ) → Counting keys 0 0
+pub decoys-counted-start : (keys : List ℕ) → DecoysCounted keys 0 0
 unfolding decoys
-counting-start keys = record { high = zero-le; few = zero-le; is = refl }
+decoys-counted-start keys = record { high = zero-le; few = zero-le; is = refl }
 
-pub counting-step : (keys : List ℕ) {i decoy bit : ℕ} → Counting keys i decoy → i < length keys → bit ≡ decoyBit (getD keys i 0) → Counting keys (i + 1) (decoy + bit)
-counting-step keys {i} {decoy} {bit} w h e =
+pub decoys-counted-step : (keys : List ℕ) {i decoy bit : ℕ} → DecoysCounted keys i decoy → i < length keys → bit ≡ decoyBit (getD keys i 0) → DecoysCounted keys (i + 1) (decoy + bit)
+decoys-counted-step keys {i} {decoy} {bit} w h e =
     let f = w .few in
-    record { high = omega arith; few = omega arith; is = omega (arith, w .is, decoys-step keys i h) }
+    record { high = omega arith; few = omega arith; is = omega (arith, w .is, decoys-by-key keys i h) }
 
-pub counting-done : (keys : List ℕ) {i decoy : ℕ} → Counting keys i decoy → length keys ≤ i → decoy ≡ decoys (labels keys)
-counting-done keys {i} w h = w .is ∙ ap decoys (take-all i (labels keys) (omega (arith, length-labels keys)))
+pub decoys-counted-done : (keys : List ℕ) {i decoy : ℕ} → DecoysCounted keys i decoy → length keys ≤ i → decoy ≡ decoys (labels keys)
+decoys-counted-done keys {i} w h = w .is ∙ ap decoys (take-all i (labels keys) (omega (arith, length-labels keys)))
 
 -- ---- the q-values, from the last row up
 
@@ -79,10 +79,6 @@ pub record Assigned (keys : List ℕ) (q₀ : List Float) (i decoy target : ℕ)
   pub least-is : least ≡ minimum (drop i (ratios (labels keys)))
   pub count-is : passing ≡ targetsAtMost (oneIn 20) (drop i (labels keys)) (drop i (qValues (labels keys)))
   pub column-is : q ≡ scattered (drop i (map placeOf keys)) (drop i (qValues (labels keys))) q₀
-
--- where a list has as many entries as there are keys, none is left behind them
-none-left : {A : Type 0} (l : List A) (n : ℕ) → length l ≡ n → drop n l ≡ []
-none-left l n e = rw (← e) (drop-length l)
 
 pub assigned-start : (keys : List ℕ) (q₀ : List Float) (decoy : ℕ) → decoy ≡ decoys (labels keys)
     → Assigned keys q₀ (length keys) (decoy + 1) (length keys + 1 - (decoy + 1)) (ofBits binary32 1065353216) 0 q₀
@@ -100,9 +96,9 @@ assigned-start keys q₀ decoy e =
       counts = omega arith;
       decoys-are = rw (whole, e);
       targets-are = rw whole (omega arith);
-      least-is = rw (none-left (ratios U) n (length-ratios U ∙ l));
-      count-is = rw (none-left U n l);
-      column-is = rw (none-left (map placeOf keys) n (length-map keys placeOf));
+      least-is = rw (drop-of-length-le (ratios U) (le-of-eq (length-ratios U ∙ l)));
+      count-is = rw (drop-of-length-le U (le-of-eq l));
+      column-is = rw (drop-of-length-le (map placeOf keys) (le-of-eq (length-map keys placeOf)));
     }
 
 module _ (keys : List ℕ) (j : ℕ) (h : j < length keys) where
@@ -173,9 +169,9 @@ module _ {keys : List ℕ} {q₀ : List Float} {i decoy target : ℕ} {least : F
         high = omega (arith, here);
         same = length-set q place m ∙ w .same;
         few = omega (arith, byte-most (le m c && eqb bit 0), w .few);
-        counts = omega (arith, w .counts, d, t, decoys-step keys j here, targets-step keys j here);
-        decoys-are = omega (arith, decoys-step keys j here);
-        targets-are = omega (arith, targets-step keys j here);
+        counts = omega (arith, w .counts, d, t, decoys-by-key keys j here, targets-by-key keys j here);
+        decoys-are = omega (arith, decoys-by-key keys j here);
+        targets-are = omega (arith, targets-by-key keys j here);
         least-is = low;
         count-is = rw bit-is (pass-one key passing (le m c))
             ∙ ap (λ (x : Float). cond (isDecoy (labelOf key)) passing (cond (le m x) (suc passing) passing)) c-is
@@ -188,7 +184,7 @@ module _ {keys : List ℕ} {q₀ : List Float} {i decoy target : ℕ} {least : F
   pub target-left : 1 - decoyBit key ≤ target
   target-left =
       let t : target ≡ targets (take (j + 1) (labels keys)) = w .targets-are ∙ ap (λ (n : ℕ). targets (take n (labels keys))) e in
-      omega (arith, targets-step keys j here)
+      omega (arith, targets-by-key keys j here)
 
 pub assigned-done : {keys : List ℕ} {q₀ : List Float} {i decoy target : ℕ} {least : Float} {passing : ℕ} {q : List Float}
     → Assigned keys q₀ i decoy target least passing q → i ≡ 0

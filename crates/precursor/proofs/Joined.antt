@@ -21,9 +21,9 @@ use Rattle.ranking.specs.Sorted.{sorted}
 use Rattle.ranking.specs.Inner.Layout.{placeOf, labelOf}
 use Rattle.ranking.specs.Inner.Rows.{rowKeys, scattered}
 use Rattle.ranking.proofs.Places.{length-as-ranked, scattered-is}
-use Rattle.ranking.proofs.Rows.{length-row-keys, keys-in-bounds, keys-places, keys-decoys}
+use Rattle.ranking.proofs.ListKeys.{length-row-keys, keys-in-bounds, keys-places, keys-decoys}
 use Rattle.precursor.specs.Precursors.{precursorQ, orderRun}
-use Rattle.precursor.proofs.Questions.{LengthsMatch}
+use Rattle.precursor.specs.Inner.Ready.{PrecursorReady}
 
 -- no label matters but for being a decoy's
 same-count : (c : Float) (ls ls′ : List ℤ) (qs : List Float) → map isDecoy ls ≡ map isDecoy ls′ → targetsAtMost c ls qs ≡ targetsAtMost c ls′ qs
@@ -37,7 +37,7 @@ same-count c (l ∷ ls) (l′ ∷ ls′) (q ∷ qs) e =
     rw (b, same-count c ls ls′ qs (cc))
 
 module _ (labels : List ℤ) (scores : List Float) (keys₀ spare₀ : List ℕ) {result : ℕ}
-    (f : LengthsMatch (length scores) (length keys₀) (length spare₀) result) (keys : List ℕ) (e : keys ≡ sorted (rowKeys labels scores)) where
+    (f : PrecursorReady (length scores) (length keys₀) (length spare₀) result) (keys : List ℕ) (e : keys ≡ sorted (rowKeys labels scores)) where
   pub length-keys : length keys ≡ length scores
   length-keys = rw e (length-row-keys labels scores)
 

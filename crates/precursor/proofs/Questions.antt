@@ -1,6 +1,6 @@
 -- What the questions let pass.
 use mathlib.Core.Path.{_≡_, sym, _∙_}
-use Prim.Native.Nat.{ℕ, _≤_}
+use Prim.Native.Nat.{ℕ}
 use borrow.Author.Tests.{leb-true, eqb-true}
 use lib.Dec.{leb, eqb}
 use Rattle.folds.proofs.Tests.{both}
@@ -9,15 +9,9 @@ use Rattle.columns.specs.declared.Outcome.the-variants.{Accepted}
 use Rattle.columns.specs.declared.Refusal.the-variants.{TooLong, WrongLength}
 use Rattle.columns.proofs.Questions.{met}
 use Rattle.precursor.specs.Precursors.{precursorAsked, orderAsked}
+use Rattle.precursor.specs.Inner.Ready.{PrecursorReady}
 
--- the working columns and the result of a list of scores
-pub record LengthsMatch (scores keys spare result : ℕ) : Type 0 where
-  pub short : scores ≤ longest
-  pub keys-match : keys ≡ scores
-  pub spare-match : spare ≡ scores
-  pub result-match : result ≡ scores
-
-pub order-lengths : (scores keys spare order : ℕ) → orderAsked scores keys spare order ≡ Accepted → LengthsMatch scores keys spare order
+pub order-lengths : (scores keys spare order : ℕ) → orderAsked scores keys spare order ≡ Accepted → PrecursorReady scores keys spare order
 order-lengths scores keys spare order e =
     let a = met (leb scores longest) TooLong _ e in
     let b = both (eqb keys scores) _ (met _ WrongLength _ (a .1) .0) in
@@ -29,8 +23,8 @@ order-lengths scores keys spare order e =
       result-match = eqb-true order scores (c .1);
     }
 
-pub lengths : (labels scores keys spare q : ℕ) → precursorAsked labels scores keys spare q ≡ Accepted → (labels ≡ scores) × LengthsMatch scores keys spare q
-lengths labels scores keys spare q e =
+pub precursor-lengths : (labels scores keys spare q : ℕ) → precursorAsked labels scores keys spare q ≡ Accepted → (labels ≡ scores) × PrecursorReady scores keys spare q
+precursor-lengths labels scores keys spare q e =
     let a = met _ TooLong _ e in
     let b = both (eqb scores labels) _ (met _ WrongLength _ (a .1) .0) in
     let c = both (eqb keys labels) _ (b .1) in

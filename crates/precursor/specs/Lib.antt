@@ -1,1 +1,2 @@
 pub mod Precursors
+pub mod Inner

@@ -6,4 +6,4 @@ mod Halving
 pub mod Packed
 pub mod Ranks
 pub mod Places
-pub mod Rows
+pub mod ListKeys

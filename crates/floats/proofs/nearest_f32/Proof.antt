@@ -6,7 +6,7 @@ use borrow.Author.Needs.{needs}
 use lib.Ieee.{binary64, div, ofBits, toBits}
 use denote.Floats.{passes}
 use Rattle.floats.proofs.Fields.{no-nan}
-use Rattle.floats.proofs.Narrowed.{infinite, field-lt, max-unit, summed}
+use Rattle.floats.proofs.Narrowed.{infinite, field-lt, max-unit, sum-rounds}
 use Rattle.floats.proofs.nearest_f32.Statement.{statement}
 use Rattle.floats.proofs.nearest_f32.Tie as tie
 
@@ -29,7 +29,7 @@ float-from-bits-max-f64 c = no-nan _ (omega (arith, exponent-lt c))
 returns-2 : tie.Need-returns-2
 returns-2 c =
     let at-start = c .before .before in
-    summed (at-start .args .size) (c .max-f64 .result) (passes _ (at-start .good .0 .1)) (at-start .pre .0) (at-start .pre .1) (c .before .if1 .left)
+    sum-rounds (at-start .args .size) (c .max-f64 .result) (passes _ (at-start .good .0 .1)) (at-start .pre .0) (at-start .pre .1) (c .before .if1 .left)
     (c .max-f64 .ensures ∙ max-unit (toBits binary64 (at-start .args .size) / 4503599627370496) (exponent-lt (c .before)))
 
 pub nearest-f32-spec : {M : Type 1} → statement M

@@ -4,12 +4,12 @@ use borrow.Author.Needs.{needs}
 use denote.Floats.{passes}
 use Rattle.floats.proofs.Order.{le-right}
 use Rattle.floats.proofs.Convert.{half}
-use Rattle.floats.proofs.Shifted.{Cut, cut}
+use Rattle.floats.proofs.Shifted.{ShiftedDigits, shifted-digits}
 use Rattle.floats.proofs.whole_part.Statement.{statement}
 use Rattle.floats.proofs.whole_part.Tie as tie
 
-bits : (c : tie.Start) → Cut (c .args .x)
-bits c = cut (c .args .x) (passes _ (c .good .0 .1)) (c .pre .0) (c .pre .1)
+bits : (c : tie.Start) → ShiftedDigits (c .args .x)
+bits c = shifted-digits (c .args .x) (passes _ (c .good .0 .1)) (c .pre .0) (c .pre .1)
 
 float-to-bits-bits : tie.Need-float-to-bits-bits
 float-to-bits-bits c = le-right half (c .args .x) (c .pre .0)

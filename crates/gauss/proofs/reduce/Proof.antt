@@ -2,7 +2,7 @@
 -- (`RowWalk`) until the first nonzero entry; the measures are the rows and the columns left.
 use Prim.Native.Nat.{_-_}
 use Rattle.folds.proofs.Walks.{WalkDown, walk-down-start, walk-down-done}
-use Rattle.gauss.proofs.Rows.{RowWalk, row-walk-start, row-walk-step, none-found, found}
+use Rattle.gauss.proofs.RowWalks.{RowWalk, row-walk-start, row-walk-step, none-found, found}
 use Rattle.gauss.specs.Elimination.{atFirstNonzero, divideRow, reduced}
 use borrow.Author.Needs.{needs}
 use Rattle.gauss.proofs.reduce.Statement.{statement}

@@ -4,13 +4,13 @@ use mathlib.Core.Path.{sym, _∙_}
 use borrow.Author.Needs.{needs}
 use Rattle.columns.proofs.Questions.{if-accepted, if-refused}
 use Rattle.line_check.specs.Check.{lineAnswer}
-use Rattle.line_check.proofs.Check.{rate-small, asked}
+use Rattle.line_check.proofs.Check.{rate-small, line-lengths}
 use Rattle.line_check.proofs.check_line.Statement.{statement}
 use Rattle.line_check.proofs.check_line.Tie as tie
 
 judge-requires : tie.Need-judge-requires
 judge-requires c κs =
-    let e = asked _ _ (sym (c .before .before .before .ask .ensures) ∙ c .before .enum-told .given .1) in
+    let e = line-lengths _ _ (sym (c .before .before .before .ask .ensures) ∙ c .before .enum-told .given .1) in
     (e .0, (e .1, rw (c .per-decoy .ensures) (rate-small (c .before .before .before .before .args .rate))))
 
 returns : tie.Need-returns

@@ -2,13 +2,13 @@
 use mathlib.Core.Path.{_∙_}
 use borrow.Author.Needs.{needs}
 use Rattle.line_check.proofs.Check.{rate-small}
-use Rattle.line_check.proofs.Later.{row-zero, after-row-zero}
+use Rattle.line_check.proofs.Later.{counts-at-zero, after-row-zero}
 use Rattle.line_check.proofs.right_line.Statement.{statement}
 use Rattle.line_check.proofs.right_line.Tie as tie
 
 last-later-requires : tie.Need-last-later-requires
 last-later-requires c κs =
-    (search needs, (rw (c .per-decoy .ensures) (rate-small (c .before .args .rate)), (search needs, row-zero (c .before .args .labels .now))))
+    (search needs, (rw (c .per-decoy .ensures) (rate-small (c .before .args .rate)), (search needs, counts-at-zero (c .before .args .labels .now))))
 
 returns : tie.Need-returns
 returns c =

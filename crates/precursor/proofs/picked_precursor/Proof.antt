@@ -5,7 +5,8 @@ use lib.ListN.{length}
 use Rattle.columns.proofs.Questions.{if-accepted, if-refused}
 use Rattle.ranking.specs.Sorted.{sorted}
 use Rattle.precursor.specs.Precursors.{pickedPrecursor}
-use Rattle.precursor.proofs.Questions.{LengthsMatch, lengths}
+use Rattle.precursor.specs.Inner.Ready.{PrecursorReady}
+use Rattle.precursor.proofs.Questions.{precursor-lengths}
 use Rattle.precursor.proofs.Joined.{assign-asks, picked}
 use Rattle.precursor.proofs.picked_precursor.Statement.{statement}
 use Rattle.precursor.proofs.picked_precursor.Tie as tie
@@ -17,17 +18,17 @@ returns c =
     let blanks = c .before .before .before .before .before .before .blank .ensures in
     rw (blanks .0, blanks .1 .0, blanks .1 .1) (sym (if-refused _ _ (sym (at-refusal .before .before .ask .ensures) ∙ at-refusal .refusal .given .1)))
 
-asked : (c : tie.After-enum-told)
+questions-met : (c : tie.After-enum-told)
     → (let a = c .before .before .before .before .before .before .before .args in
-    (length (a .labels .now) ≡ length (a .scores .now)) × LengthsMatch (length (a .scores .now)) (length (a .keys .now)) (length (a .spare .now)) (length (a .q .now)))
-asked c = lengths _ _ _ _ _ (sym (c .before .before .ask .ensures) ∙ c .enum-told .given .1)
+    (length (a .labels .now) ≡ length (a .scores .now)) × PrecursorReady (length (a .scores .now)) (length (a .keys .now)) (length (a .spare .now)) (length (a .q .now)))
+questions-met c = precursor-lengths _ _ _ _ _ (sym (c .before .before .ask .ensures) ∙ c .enum-told .given .1)
 
 pack-requires : tie.Need-pack-requires
-pack-requires c κs = let m = asked (c .before) in ((m .0, m .1 .keys-match), m .1 .short)
+pack-requires c κs = let m = questions-met (c .before) in ((m .0, m .1 .keys-match), m .1 .short)
 
 sort-requires : tie.Need-sort-requires
 sort-requires c κs =
-    let m = asked (c .before .before .before .before .before .before) in
+    let m = questions-met (c .before .before .before .before .before .before) in
     m .1 .spare-match ∙ sym (c .before .before .before .before .pack .kept .1 .1 .0 ∙ m .1 .keys-match)
 
 assign-q-value-requires : tie.Need-assign-q-value-requires
@@ -36,7 +37,7 @@ assign-q-value-requires c κs =
     let at-pack = at-sort .before .before .before .before .before in
     let at-match = at-pack .before .before in
     let a = at-match .before .before .before .before .before .before .before .args in
-    assign-asks (a .labels .now) (a .scores .now) (a .keys .now) (a .spare .now) (asked at-match .1) _ (at-sort .sort .ensures .0 ∙ ap sorted (at-pack .pack .ensures))
+    assign-asks (a .labels .now) (a .scores .now) (a .keys .now) (a .spare .now) (questions-met at-match .1) _ (at-sort .sort .ensures .0 ∙ ap sorted (at-pack .pack .ensures))
 
 returns-2 : tie.Need-returns-2
 unfolding pickedPrecursor
@@ -47,7 +48,7 @@ returns-2 c =
     let at-pack = at-sort .before .before .before .before .before in
     let at-match = at-pack .before .before in
     let a = at-match .before .before .before .before .before .before .before .args in
-    let m = asked at-match in
+    let m = questions-met at-match in
     rw (at-clear .clear .ensures .0, at-clear .clear .ensures .1)
     (picked (a .labels .now) (a .scores .now) (a .keys .now) (a .spare .now) (m .1) _ (at-sort .sort .ensures .0 ∙ ap sorted (at-pack .pack .ensures)) (a .q .now) refl (m .0)
     _ _ (at-sort .sort .last .1 .0) (at-assign .assign-q-value .ensures .0) (at-assign .assign-q-value .ensures .1) (at-sort .sort .ensures .1)

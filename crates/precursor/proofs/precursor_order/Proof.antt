@@ -6,7 +6,8 @@ use lib.ListN.{length}
 use Rattle.columns.proofs.Questions.{if-accepted, if-refused}
 use Rattle.ranking.specs.Sorted.{sorted}
 use Rattle.precursor.specs.Precursors.{precursorOrder}
-use Rattle.precursor.proofs.Questions.{LengthsMatch, order-lengths}
+use Rattle.precursor.specs.Inner.Ready.{PrecursorReady}
+use Rattle.precursor.proofs.Questions.{order-lengths}
 use Rattle.precursor.proofs.Joined.{ordered}
 use Rattle.precursor.proofs.precursor_order.Statement.{statement}
 use Rattle.precursor.proofs.precursor_order.Tie as tie
@@ -19,24 +20,24 @@ returns c =
     rw (at-clear .clear .ensures .0, at-clear .clear .ensures .1, c .before .before .fill-u32 .ensures)
     (sym (if-refused _ _ (sym (at-refusal .before .before .ask-order .ensures) ∙ at-refusal .refusal .given .1)))
 
-asked : (c : tie.After-enum-told)
+questions-met : (c : tie.After-enum-told)
     → (let a = c .before .before .before .before .before .before .before .args in
-    LengthsMatch (length (a .scores .now)) (length (a .keys .now)) (length (a .spare .now)) (length (a .order .now)))
-asked c = order-lengths _ _ _ _ (sym (c .before .before .ask-order .ensures) ∙ c .enum-told .given .1)
+    PrecursorReady (length (a .scores .now)) (length (a .keys .now)) (length (a .spare .now)) (length (a .order .now)))
+questions-met c = order-lengths _ _ _ _ (sym (c .before .before .ask-order .ensures) ∙ c .enum-told .given .1)
 
 pack-scores-requires : tie.Need-pack-scores-requires
-pack-scores-requires c κs = let m = asked (c .before) in (m .keys-match, m .short)
+pack-scores-requires c κs = let m = questions-met (c .before) in (m .keys-match, m .short)
 
 sort-requires : tie.Need-sort-requires
 sort-requires c κs =
-    let m = asked (c .before .before .before .before .before .before) in
+    let m = questions-met (c .before .before .before .before .before .before) in
     m .spare-match ∙ sym (c .before .before .before .before .pack-scores .kept .1 .0 ∙ m .keys-match)
 
 write-order-requires : tie.Need-write-order-requires
 write-order-requires c κs =
     let at-sort = c .before .before .before .before .before .before in
     let at-pack = at-sort .before .before .before .before .before in
-    let m = asked (at-pack .before .before) in
+    let m = questions-met (at-pack .before .before) in
     m .result-match ∙ sym (at-sort .sort .kept .0 ∙ at-pack .pack-scores .kept .1 .0 ∙ m .keys-match)
 
 returns-2 : tie.Need-returns-2
@@ -49,7 +50,7 @@ returns-2 c =
     let at-match = at-pack .before .before in
     let a = at-match .before .before .before .before .before .before .before .args in
     rw (at-clear .clear2 .ensures .0, at-clear .clear2 .ensures .1)
-    (ordered [] (a .scores .now) (a .keys .now) (a .spare .now) (asked at-match) _ (at-sort .sort .ensures .0 ∙ ap sorted (at-pack .pack-scores .ensures))
+    (ordered [] (a .scores .now) (a .keys .now) (a .spare .now) (questions-met at-match) _ (at-sort .sort .ensures .0 ∙ ap sorted (at-pack .pack-scores .ensures))
     _ (at-sort .sort .last .1 .0) (at-write .write-order .ensures) (at-sort .sort .ensures .1)
     ∙ sym (if-accepted _ _ (sym (at-match .before .before .ask-order .ensures) ∙ at-match .enum-told .given .1)))
 

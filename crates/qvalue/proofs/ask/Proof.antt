@@ -1,6 +1,5 @@
 -- `qvalue::ask` meets its contract: each test is the definition's.
 use borrow.Author.Tests.{le-leb, lt-leb, eq-eqb, ne-eqb}
-use borrow.Author.Needs.{needs}
 use Rattle.columns.specs.Refusals.{longest}
 use Rattle.qvalue.proofs.ask.Statement.{statement}
 use Rattle.qvalue.proofs.ask.Tie as tie

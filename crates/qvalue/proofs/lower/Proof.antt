@@ -1,5 +1,5 @@
 -- `qvalue::lower` meets its contract: its comparison is that of `min-of-number`, and each return is what it then picks.
-use Rattle.counting.proofs.RunningMinimum.{min-of-number}
+use Rattle.floats.proofs.MinMax.{min-of-number}
 use Rattle.qvalue.proofs.lower.Statement.{statement}
 use Rattle.qvalue.proofs.lower.Tie as tie
 

@@ -5,12 +5,12 @@ use lib.Ieee.{ofBits, div}
 use Rattle.counting.specs.QValues.{qValues}
 use Rattle.columns.proofs.Questions.{if-accepted, if-refused}
 use Rattle.qvalue.specs.Spectrum.{spectrumQValue}
-use Rattle.qvalue.proofs.Questions.{lengths}
+use Rattle.qvalue.proofs.Questions.{spectrum-lengths}
 use Rattle.qvalue.proofs.spectrum_q_value.Statement.{statement}
 use Rattle.qvalue.proofs.spectrum_q_value.Tie as tie
 
 write-ratios-requires : tie.Need-write-ratios-requires
-write-ratios-requires c κs = lengths _ _ (sym (c .before .before .before .ask .ensures) ∙ c .before .enum-told .given .1)
+write-ratios-requires c κs = spectrum-lengths _ _ (sym (c .before .before .before .ask .ensures) ∙ c .before .enum-told .given .1)
 
 returns : tie.Need-returns
 unfolding spectrumQValue ofBits div

@@ -6,7 +6,7 @@ use lib.Ieee.{binary32, ofBits, le}
 use Rattle.folds.proofs.Tests.{byte-most}
 use Rattle.floats.specs.Ratio.{oneIn}
 use Rattle.floats.proofs.Ratio.{one-in-100}
-use Rattle.counting.proofs.Passes.{MinimumWalk, minimum-walk-start, minimum-walk-next, minimum-walk-number, minimum-walk-bound, minimum-walk-done}
+use Rattle.counting.proofs.ColumnPasses.{MinimumWalk, minimum-walk-start, minimum-walk-next, minimum-walk-number, minimum-walk-bound, minimum-walk-done}
 use Rattle.qvalue.proofs.take_minima.Statement.{statement}
 use Rattle.qvalue.proofs.take_minima.Tie as tie
 

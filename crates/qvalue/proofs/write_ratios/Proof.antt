@@ -4,7 +4,7 @@ use Prim.Native.Nat.{_-_}
 use native.Mathlib.Omega.{arith}
 use borrow.Author.Needs.{needs}
 use lib.ListN.{length}
-use Rattle.counting.proofs.Passes.{Rated, rated-start, rated-next, rated-done}
+use Rattle.counting.proofs.ColumnPasses.{Rated, rated-start, rated-next, rated-done}
 use Rattle.counting.proofs.Tally.{tally-next, next-decoy, next-target, mark-small}
 use Rattle.qvalue.proofs.write_ratios.Statement.{statement}
 use Rattle.qvalue.proofs.write_ratios.Tie as tie

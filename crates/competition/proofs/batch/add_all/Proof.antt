@@ -4,7 +4,7 @@ use borrow.Author.Needs.{needs}
 use lib.ListN.{length}
 use Rattle.competition.specs.Tables.{tableOf}
 use Rattle.competition.specs.Batches.{batchOf}
-use Rattle.competition.proofs.Rows.{Adding, adding-start, adding-row, adding-step, adding-done}
+use Rattle.competition.proofs.RowSteps.{Adding, adding-start, adding-row, adding-step, adding-done}
 use Rattle.competition.proofs.batch.add_all.Statement.{statement}
 use Rattle.competition.proofs.batch.add_all.Tie as tie
 

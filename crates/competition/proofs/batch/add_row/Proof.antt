@@ -1,7 +1,7 @@
--- `competition::batch::add_row` meets its contract: each way out is a law of proofs/Rows.antt.
+-- `competition::batch::add_row` meets its contract: each way out is a law of proofs/RowSteps.antt.
 use borrow.Author.Needs.{needs}
 use Rattle.competition.specs.Tables.{tableOf}
-use Rattle.competition.proofs.Rows.{no-part-row, decoy-row, target-row}
+use Rattle.competition.proofs.RowSteps.{no-part-row, decoy-row, target-row}
 use Rattle.competition.proofs.batch.add_row.Statement.{statement}
 use Rattle.competition.proofs.batch.add_row.Tie as tie
 

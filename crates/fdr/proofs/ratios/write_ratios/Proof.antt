@@ -9,7 +9,8 @@ use lib.ListN.{length}
 use lib.Ieee.{Float, isNan}
 use Rattle.floats.specs.Constants.{f32One}
 use Rattle.competition.specs.Tables.{tableOf}
-use Rattle.fdr.proofs.Numbers.{one-number, min-number}
+use Rattle.floats.proofs.Order.{min-number}
+use Rattle.floats.proofs.Constants.{one-number}
 use Rattle.fdr.proofs.Sums.{Summing, summing-start, summing-in-bounds, summing-few, summing-step, summing-done}
 use borrow.Author.Needs.{needs}
 use Rattle.fdr.proofs.ratios.write_ratios.Statement.{statement}

@@ -7,7 +7,7 @@ use borrow.Author.Needs.{needs}
 use lib.ListN.{length}
 use lib.Ieee.{ofBits, div}
 use Rattle.columns.proofs.Questions.{if-accepted, if-refused}
-use Rattle.counting.proofs.Labels.{both}
+use Rattle.counting.proofs.Labels.{decoys-and-targets}
 use Rattle.kde.specs.Bins.{builtBins, labelBins}
 use Rattle.kde.proofs.Questions.{bins-passed}
 use Rattle.kde.proofs.bins.posterior_bins.Statement.{statement}
@@ -16,7 +16,7 @@ use Rattle.kde.proofs.bins.posterior_bins.Tie as tie
 build-bins-requires : tie.Need-build-bins-requires
 build-bins-requires c κs =
     let labels = c .before .before .before .before .before .before .before .before .args .labels .now in
-    let few : c .before .count-decoys .result ≤ length labels = omega (arith, c .before .count-decoys .ensures, both labels) in
+    let few : c .before .count-decoys .result ≤ length labels = omega (arith, c .before .count-decoys .ensures, decoys-and-targets labels) in
     bins-passed _ _ _ _ _ _ _ (sym (c .before .before .before .before .ask-bins .ensures) ∙ c .before .before .enum-told .given .1) few (le-refl _)
 
 returns : tie.Need-returns

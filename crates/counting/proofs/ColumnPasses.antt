@@ -13,6 +13,7 @@ use lib.ListN.{length, take, drop, set, getD, length-set, length-drop}
 use lib.Seq.{take-suc, take-suc-set, take-all, take-set-le, take-take, lt-length-set, drop-set-lt, drop-cons, drop-length, getD-take, getD-set-same}
 use lib.Ieee.{Float, nan, binary32, ofBits, isNan, le}
 use mir.Val.{boolByte}
+use Rattle.folds.proofs.Tests.{byte-added}
 use Rattle.floats.specs.MinMax.{minNumber}
 use Rattle.counting.specs.QValues.{ratio, ratioAt, ratios, minimum, runningMinimum, atMost}
 use Rattle.counting.proofs.QValues.{length-ratios, ratios-at}
@@ -70,10 +71,6 @@ minimum-walk-start {c} {rs} = record {
 pub minimum-walk-number : {c : Float} {rs q : List Float} {low : Float} {passing i : ℕ} → MinimumWalk c rs q low passing i → T (not (isNan low))
 minimum-walk-number {rs = rs} {i = i} w = rw (w .low-is) (minimum-number (drop i rs))
 
-at-most-bit : (b : Bool) (n : ℕ) → n + boolByte b ≡ cond b (suc n) n
-at-most-bit true n = omega arith
-at-most-bit false n = omega arith
-
 pub minimum-walk-next : {c : Float} {rs q : List Float} {low low′ : Float} {passing i : ℕ} (j : ℕ) → i ≡ j + 1 → MinimumWalk c rs q low passing i
     → low′ ≡ minNumber low (getD q j nan) → MinimumWalk c rs (set q j low′) low′ (passing + boolByte (le low′ c)) j
 unfolding minimum runningMinimum atMost
@@ -93,7 +90,7 @@ minimum-walk-next {c} {rs} {q} {low} {low′} {passing} {i} j e w n =
       back = rw (drop-cons (set q j low′) j nan (lt-length-set q j low′ l′), getD-set-same q j low′ nan l′)
           (rw (drop-set-lt (suc j) q j low′ (le-refl (suc j)), s, w .back, p, m));
       low-is = rw p m;
-      passing-is = rw (p, ← m, w .passing-is) (at-most-bit (le low′ c) (atMost c (runningMinimum (drop i rs))));
+      passing-is = rw (p, ← m, w .passing-is) (byte-added (le low′ c) (atMost c (runningMinimum (drop i rs))));
     }
 
 pub minimum-walk-done : {c : Float} {rs q : List Float} {low : Float} {passing i : ℕ} → MinimumWalk c rs q low passing i → i ≤ 0
@@ -103,10 +100,10 @@ minimum-walk-done {c} {rs} {q} {low} {passing} {i} w h =
     (subst (λ (n : ℕ). passing ≡ atMost c (runningMinimum (drop n rs))) z (w .passing-is), subst (λ (n : ℕ). drop n q ≡ runningMinimum (drop n rs)) z (w .back))
 
 -- no more than the column has places
-at-most-within : (c : Float) (qs : List Float) → atMost c qs ≤ length qs
+at-most-length : (c : Float) (qs : List Float) → atMost c qs ≤ length qs
 unfolding atMost
-at-most-within c [] = zero-le
-at-most-within c (q ∷ qs) = go (le q c) (at-most-within c qs)
+at-most-length c [] = zero-le
+at-most-length c (q ∷ qs) = go (le q c) (at-most-length c qs)
   where
     go : (b : Bool) {n : ℕ} → n ≤ length qs → cond b (suc n) n ≤ suc (length qs)
     go true h = omega arith
@@ -115,4 +112,4 @@ at-most-within c (q ∷ qs) = go (le q c) (at-most-within c qs)
 pub minimum-walk-bound : {c : Float} {rs q : List Float} {low : Float} {passing i : ℕ} → MinimumWalk c rs q low passing i → passing + i ≤ length rs
 minimum-walk-bound {c} {rs} {q} {low} {passing} {i} w =
     let h = w .high in
-    omega (arith, w .passing-is, at-most-within c (runningMinimum (drop i rs)), length-running-minimum (drop i rs), length-drop i rs)
+    omega (arith, w .passing-is, at-most-length c (runningMinimum (drop i rs)), length-running-minimum (drop i rs), length-drop i rs)
