@@ -49,7 +49,8 @@ exactly-one-right rate labels = record {
   only = λ other h r. right-line-only rate labels other r h;
 }
 
-last-qualifying : (rate : ℕ) (labels : List ℤ) (line : ℕ) → LastQualifying rate labels line (max line (rightLine rate labels))
+last-qualifying : (rate : ℕ) (labels : List ℤ) (line : ℕ)
+    → LastQualifying rate labels line (max line (rightLine rate labels))
 last-qualifying rate labels line = record {
   none-after = λ later h l. right-line rate labels .none-later later (omega arith) l;
   which = elim (wrong-row rate labels line) [
@@ -58,7 +59,8 @@ last-qualifying rate labels line = record {
   ];
 }
 
-check : (rate : ℕ) (labels : List ℤ) (line : ℕ) → length labels ≤ longest → line ≤ length labels → LineCheck rate labels line
+check : (rate : ℕ) (labels : List ℤ) (line : ℕ) → length labels ≤ longest → line ≤ length labels
+    → LineCheck rate labels line
 check rate labels line s l = record {
   if-right = right-answered rate labels line s l;
   if-wrong = λ n. (max line (rightLine rate labels), last-qualifying rate labels line, wrong-answered rate labels line s l n);
@@ -99,7 +101,8 @@ module _ (labels : List ℤ) (q : List Float) (count line : ℕ) (a : spectrumQV
 
 -- where the q-values up to a line are at most c, and no others, the targets counted are those up to the line
 targets-up : (c : Float) (ls : List ℤ) (qs : List Float) (line : ℕ) → length qs ≡ length ls
-    → ((i : ℕ) → i < length ls → le (getD qs i nan) c ≡ leb (suc i) line) → targetsAtMost c ls qs ≡ targets (take line ls)
+    → ((i : ℕ) → i < length ls → le (getD qs i nan) c ≡ leb (suc i) line)
+    → targetsAtMost c ls qs ≡ targets (take line ls)
 unfolding targetsAtMost targets
 targets-up c [] qs line e g = none line
   where
@@ -118,7 +121,8 @@ targets-up c (l ∷ ls) (q ∷ qs) (suc line) e g =
     rw (g 0 (zero-lt-suc (length ls)), leb·suc-suc, leb·zero, targets-up c ls qs line (omega (arith, e)) (λ (i : ℕ) (h : i < length ls). g (suc i) (omega arith) ∙ leb·suc-suc (suc i) line))
 
 precursors-accepted : (o : Outcome) (x count : ℕ) (keys spare : List ℕ) (qs blanks : List Float)
-    → answered o (rankedRun (Passing x) keys spare qs) (λ r. rankedRun (Refused r) keys spare blanks) .answer ≡ Passing count
+    → answered o (rankedRun (Passing x) keys spare qs) (λ r. rankedRun (Refused r) keys spare blanks) .answer
+    ≡ Passing count
     → (o ≡ Accepted) × (count ≡ x)
 precursors-accepted Accepted x count keys spare qs blanks e = (refl, cc)
 precursors-accepted (outcome.Refused r) x count keys spare qs blanks e = let z : _≡_ {A = ℕ} 0 1 = cc in absurd (omega arith)
@@ -146,7 +150,8 @@ module _ (labels : List ℤ) (scores : List Float) (keys spare : List ℕ) (q : 
   right-is : rightLine 20 (asRanked labels scores) ≡ line
   right-is = sym (right-line-only 20 (asRanked labels scores) line r l)
 
-  ranked-rows : (i : ℕ) → i < length (asRanked labels scores) → le (getD (qValues (asRanked labels scores)) i nan) (oneIn 20) ≡ leb (suc i) line
+  ranked-rows : (i : ℕ) → i < length (asRanked labels scores)
+      → le (getD (qValues (asRanked labels scores)) i nan) (oneIn 20) ≡ leb (suc i) line
   ranked-rows i h = q-at-most (asRanked labels scores) few 20 (omega arith) sharp-20 i h ∙ ap₂ leb (add-one i) right-is
 
   precursors : Precursors labels scores (pickedPrecursor labels scores keys spare q .q) count line

@@ -17,8 +17,10 @@ met true r next e = (refl, e)
 met false r next e = never e
 
 -- what a call answers and leaves, by what its questions say
-pub if-accepted : {A : Type 0} {o : Outcome} (accepted : A) (refused : Refusal → A) → o ≡ Accepted → answered o accepted refused ≡ accepted
+pub if-accepted : {A : Type 0} {o : Outcome} (accepted : A) (refused : Refusal → A) → o ≡ Accepted
+    → answered o accepted refused ≡ accepted
 if-accepted accepted refused e = rw e
 
-pub if-refused : {A : Type 0} {o : Outcome} {r : Refusal} (accepted : A) (refused : Refusal → A) → o ≡ Refused r → answered o accepted refused ≡ refused r
+pub if-refused : {A : Type 0} {o : Outcome} {r : Refusal} (accepted : A) (refused : Refusal → A) → o ≡ Refused r
+    → answered o accepted refused ≡ refused r
 if-refused accepted refused e = rw e

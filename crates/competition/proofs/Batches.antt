@@ -31,7 +31,8 @@ use Rattle.competition.proofs.Calls.{run-of-accepted, all-allowed-joine
 -- ---- batch after batch
 
 -- rows added one batch after the other are the rows of both batches
-pub joined-rows : (a c : List ℕ) (b d : List ℤ) (x y : List Float) → length b ≡ length a → length x ≡ length a → (t : Table)
+pub joined-rows : (a c : List ℕ) (b d : List ℤ) (x y : List Float) → length b ≡ length a → length x ≡ length a
+    → (t : Table)
     → added (a ++ c) (b ++ d) (x ++ y) t ≡ added c d y (added a b x t)
 unfolding added
 joined-rows [] c [] d [] y p q t = refl
@@ -50,8 +51,10 @@ pub later-answer : (a b : Batch) (t : Table) → batchAsked b (addRows a t .tabl
 later-answer a b t = asked-by-lengths b (call-keeps-lengths a t)
 
 -- another batch is accepted by a table that accepted one, where its own columns are right
-another : (a b : Batch) (t : Table) → BatchReady a t → length (b .slots) ≤ longest → length (b .labels) ≡ length (b .slots)
-    → length (b .scores) ≡ length (b .slots) → allAllowed (length (t .forward)) (b .slots) ≡ true → batchAsked b t ≡ Accepted
+another : (a b : Batch) (t : Table) → BatchReady a t → length (b .slots) ≤ longest
+    → length (b .labels) ≡ length (b .slots)
+    → length (b .scores) ≡ length (b .slots) → allAllowed (length (t .forward)) (b .slots) ≡ true
+    → batchAsked b t ≡ Accepted
 another a b t w h l s k = batch-accepted b t (record {
   short = h;
   table-short = w .table-short;
@@ -82,8 +85,10 @@ joined-calls a b t p q h =
     )
 
 -- and an accepted call is two
-pub split-call : (a b : Batch) (t : Table) → length (a .labels) ≡ length (a .slots) → length (a .scores) ≡ length (a .slots)
-    → batchAsked (appended a b) t ≡ Accepted → (batchAsked a t ≡ Accepted) × (batchAsked b (addRows a t .table) ≡ Accepted)
+pub split-call : (a b : Batch) (t : Table) → length (a .labels) ≡ length (a .slots)
+    → length (a .scores) ≡ length (a .slots)
+    → batchAsked (appended a b) t ≡ Accepted
+    → (batchAsked a t ≡ Accepted) × (batchAsked b (addRows a t .table) ≡ Accepted)
 split-call a b t p q e =
     let w = batch-ready (appended a b) t e in
     let h = w .short in
@@ -105,7 +110,8 @@ no-part label score t = refl
 
 -- wherever it stands in a batch
 pub no-part-anywhere : (a c : List ℕ) (b d : List ℤ) (x y : List Float) → length b ≡ length a → length x ≡ length a
-    → (label : ℤ) (score : Float) (t : Table) → added (a ++ noPart ∷ c) (b ++ label ∷ d) (x ++ score ∷ y) t ≡ added (a ++ c) (b ++ d) (x ++ y) t
+    → (label : ℤ) (score : Float) (t : Table)
+    → added (a ++ noPart ∷ c) (b ++ label ∷ d) (x ++ score ∷ y) t ≡ added (a ++ c) (b ++ d) (x ++ y) t
 unfolding added
 no-part-anywhere a c b d x y p q label score t =
     joined-rows a (noPart ∷ c) b (label ∷ d) x (score ∷ y) p q t ∙ sym (joined-rows a c b d x y p q t)
@@ -142,7 +148,8 @@ module _ (t : Table) (e : freshAsked t ≡ Accepted) where
   -- and its winners are all blanks
   pub fresh-winners : (scores : List Float) (flags : List ℕ)
       → winners (freshTable t .table) scores flags
-      ≡ winnersRun (winnersAsked (freshTable t .table) (length scores) (length flags)) (filled nan scores) (filled 4294967295 flags)
+      ≡ winnersRun (winnersAsked (freshTable t .table) (length scores) (length flags)) (filled nan scores)
+      (filled 4294967295 flags)
   fresh-winners = unseen-winners (freshTable t .table) fresh-unseen
 
 -- ---- ties
@@ -159,6 +166,7 @@ module _ (t : Table) (slot : ℕ) (seen : slotSeen t slot ≡ true) where
   pub equal-sides : T (eq (getD (t .forward) slot nan) (getD (t .reverse) slot nan)) → decoyFlag t slot ≡ 1
   equal-sides e = no-less (eq→le (getD (t .forward) slot nan) (getD (t .reverse) slot nan) e)
 
-  pub same-sides : getD (t .forward) slot nan ≡ getD (t .reverse) slot nan → T (not (isNan (getD (t .forward) slot nan))) → decoyFlag t slot ≡ 1
+  pub same-sides : getD (t .forward) slot nan ≡ getD (t .reverse) slot nan
+      → T (not (isNan (getD (t .forward) slot nan))) → decoyFlag t slot ≡ 1
   same-sides e n =
       no-less (subst (λ (x : Float). T (le (getD (t .forward) slot nan) x)) e (le-refl (getD (t .forward) slot nan) n))

@@ -26,14 +26,16 @@ pub run-of-accepted : (b : Batch) (t : Table) → batchAsked b t ≡ Accepted
 unfolding addRows
 run-of-accepted b t e = rw e
 
-pub all-allowed-joined : (count : ℕ) (a c : List ℕ) → allAllowed count (a ++ c) ≡ (allAllowed count a && allAllowed count c)
+pub all-allowed-joined : (count : ℕ) (a c : List ℕ)
+    → allAllowed count (a ++ c) ≡ (allAllowed count a && allAllowed count c)
 unfolding allAllowed
 all-allowed-joined count [] c = refl
 all-allowed-joined count (s ∷ a) c =
     ap (λ (b : Bool). allowed count s && b) (all-allowed-joined count a c) ∙ sym (and-assoc (allowed count s) (allAllowed count a) (allAllowed count c))
 
 -- what holds of the table before, and after its rows were added, holds after the call
-pub after-call : (P : Table → Type 0) (b : Batch) (t : Table) → P t → P (added (b .slots) (b .labels) (b .scores) t) → P (addRows b t .table)
+pub after-call : (P : Table → Type 0) (b : Batch) (t : Table) → P t → P (added (b .slots) (b .labels) (b .scores) t)
+    → P (addRows b t .table)
 unfolding addRows
 after-call P b t before after = go (batchAsked b t) refl
   where
@@ -43,7 +45,8 @@ after-call P b t before after = go (batchAsked b t) refl
 
 -- ---- the lengths of a table's columns
 
-pub batch-lengths : (slots : List ℕ) (labels : List ℤ) (scores : List Float) (t : Table) → SameLengths (added slots labels scores t) t
+pub batch-lengths : (slots : List ℕ) (labels : List ℤ) (scores : List Float) (t : Table)
+    → SameLengths (added slots labels scores t) t
 unfolding added
 batch-lengths [] labels scores t = same-lengths-refl
 batch-lengths (s ∷ ss) [] scores t = same-lengths-refl
@@ -79,7 +82,8 @@ row-keeps slot label score t = go (eqb slot noPart) (isDecoy label)
     go false true = record { forward = λ k e. e; reverse = mark-stays (t .reverseSeen) slot }
     go false false = record { forward = mark-stays (t .forwardSeen) slot; reverse = λ k e. e }
 
-pub batch-keeps : (slots : List ℕ) (labels : List ℤ) (scores : List Float) (t : Table) → KeepsSeen t (added slots labels scores t)
+pub batch-keeps : (slots : List ℕ) (labels : List ℤ) (scores : List Float) (t : Table)
+    → KeepsSeen t (added slots labels scores t)
 unfolding added
 batch-keeps [] labels scores t = keeps-refl
 batch-keeps (s ∷ ss) [] scores t = keeps-refl
@@ -92,12 +96,14 @@ batch-keeps (s ∷ ss) (l ∷ ls) (x ∷ xs) t =
 -- ---- winners of a table in which no slot is seen
 
 pub unseen-winners : (u : Table) → ((slot : ℕ) → slotSeen u slot ≡ false) → (scores : List Float) (flags : List ℕ)
-    → winners u scores flags ≡ winnersRun (winnersAsked u (length scores) (length flags)) (filled nan scores) (filled 4294967295 flags)
+    → winners u scores flags
+    ≡ winnersRun (winnersAsked u (length scores) (length flags)) (filled nan scores) (filled 4294967295 flags)
 unfolding winners
 unseen-winners u unseen scores flags = go (winnersAsked u (length scores) (length flags)) refl
   where
     go : (o : Outcome) → winnersAsked u (length scores) (length flags) ≡ o
-        → winners u scores flags ≡ winnersRun (winnersAsked u (length scores) (length flags)) (filled nan scores) (filled 4294967295 flags)
+        → winners u scores flags
+        ≡ winnersRun (winnersAsked u (length scores) (length flags)) (filled nan scores) (filled 4294967295 flags)
     go Accepted e =
         let w = winners-ready u (length scores) (length flags) e in
         let s = tabulated-blank (winner u) nan scores (length (u .forward)) (λ i. rw (unseen i)) (w .scores-length) in

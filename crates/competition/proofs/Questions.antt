@@ -67,11 +67,12 @@ module _ (b : Batch) (t : Table) where
         w .slots-allowed,
       )
 
-pub winners-ready : (t : Table) (scores isDecoy : ℕ) → winnersAsked t scores isDecoy ≡ Accepted → WinnersReady t scores isDecoy
-winners-ready t scores isDecoy e =
+pub winners-ready : (t : Table) (scores flags : ℕ) → winnersAsked t scores flags ≡ Accepted
+    → WinnersReady t scores flags
+winners-ready t scores flags e =
     let slots = length (t .forward) in
-    let results = eqb scores slots && eqb isDecoy slots in
+    let results = eqb scores slots && eqb flags slots in
     let short = met (tableShort t) TooLong _ e in
     let fits = both (tableFits t) results (met (tableFits t && results) WrongLength Accepted (short .1) .0) in
-    let r = both (eqb scores slots) (eqb isDecoy slots) (fits .1) in
-    record { lengths = lengths-match t (fits .0); scores-length = eqb-true scores slots (r .0); flags-length = eqb-true isDecoy slots (r .1) }
+    let r = both (eqb scores slots) (eqb flags slots) (fits .1) in
+    record { lengths = lengths-match t (fits .0); scores-length = eqb-true scores slots (r .0); flags-length = eqb-true flags slots (r .1) }

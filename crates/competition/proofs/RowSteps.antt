@@ -33,13 +33,17 @@ module _ (slot : ℕ) (label : ℤ) (score : Float) (t : Table) where
 
   module _ (e : slot ≡ noPart → ⊥) (fits : SFits w32 label) where
     pub decoy-row : ofZ w32 label ≡ 4294967295 → {entry : Competition}
-        → entry ≡ record { forward = getD (t .forward) slot nan; reverse = maxNumber (getD (t .reverse) slot nan) score }
-        → tableOf (t .forward) (set (t .reverse) slot (entry .reverse)) (t .forwardSeen) (set (t .reverseSeen) slot 1) ≡ withRow slot label score t
+        → entry
+        ≡ record { forward = getD (t .forward) slot nan; reverse = maxNumber (getD (t .reverse) slot nan) score }
+        → tableOf (t .forward) (set (t .reverse) slot (entry .reverse)) (t .forwardSeen) (set (t .reverseSeen) slot 1)
+        ≡ withRow slot label score t
     decoy-row d r = rw (ne-eqb slot noPart e, sym (label-test label (fits .sfits)) ∙ eq-eqb (ofZ w32 label) 4294967295 d, r)
 
     pub target-row : (ofZ w32 label ≡ 4294967295 → ⊥) → {entry : Competition}
-        → entry ≡ record { forward = maxNumber (getD (t .forward) slot nan) score; reverse = getD (t .reverse) slot nan }
-        → tableOf (set (t .forward) slot (entry .forward)) (t .reverse) (set (t .forwardSeen) slot 1) (t .reverseSeen) ≡ withRow slot label score t
+        → entry
+        ≡ record { forward = maxNumber (getD (t .forward) slot nan) score; reverse = getD (t .reverse) slot nan }
+        → tableOf (set (t .forward) slot (entry .forward)) (t .reverse) (set (t .forwardSeen) slot 1) (t .reverseSeen)
+        ≡ withRow slot label score t
     target-row d r = rw (ne-eqb slot noPart e, sym (label-test label (fits .sfits)) ∙ ne-eqb (ofZ w32 label) 4294967295 d, r)
 
 -- ---- no column gets longer or shorter
@@ -85,7 +89,8 @@ pub record Adding (b : Batch) (t₀ t : Table) (i : ℕ) : Type 0 where
   pub high : i ≤ length (b .slots)
   pub same : SameLengths t t₀
   pub left : allAllowed (length (t₀ .forward)) (drop i (b .slots)) ≡ true
-  pub is : added (drop i (b .slots)) (drop i (b .labels)) (drop i (b .scores)) t ≡ added (b .slots) (b .labels) (b .scores) t₀
+  pub is : added (drop i (b .slots)) (drop i (b .labels)) (drop i (b .scores)) t
+      ≡ added (b .slots) (b .labels) (b .scores) t₀
 
 module _ {b : Batch} {t₀ : Table} (ready : BatchReady b t₀) where
   pub adding-start : Adding b t₀ t₀ 0
@@ -120,7 +125,8 @@ module _ {b : Batch} {t₀ : Table} (ready : BatchReady b t₀) where
           }
 
       -- a label comes from its 32 bits
-      pub adding-step : mag (getD (b .labels) i (pos 0)) < 2 ^ 31 → {forward reverse : List Float} {forwardSeen reverseSeen : List ℕ}
+      pub adding-step : mag (getD (b .labels) i (pos 0)) < 2 ^ 31
+          → {forward reverse : List Float} {forwardSeen reverseSeen : List ℕ}
           → tableOf forward reverse forwardSeen reverseSeen
           ≡ withRow (getD (b .slots) i 0) (toZ w32 (ofZ w32 (getD (b .labels) i (pos 0)))) (getD (b .scores) i nan) t
           → Adding b t₀ (tableOf forward reverse forwardSeen reverseSeen) (i + 1)

@@ -17,7 +17,8 @@ pub record Asking (count : ℕ) (slots : List ℕ) (all : Bool) (i : ℕ) : Type
 pub asking-start : {count : ℕ} {slots : List ℕ} → Asking count slots true 0
 asking-start = record { high = zero-le; is = refl }
 
-pub asking-step : {count : ℕ} {slots : List ℕ} {all x : Bool} {i : ℕ} → Asking count slots all i → i < length slots → x ≡ allowed count (getD slots i 0)
+pub asking-step : {count : ℕ} {slots : List ℕ} {all x : Bool} {i : ℕ} → Asking count slots all i → i < length slots
+    → x ≡ allowed count (getD slots i 0)
     → Asking count slots (all && x) (i + 1)
 unfolding allAllowed
 asking-step {count} {slots} {all} {x} {i} w h e = record {
@@ -27,7 +28,8 @@ asking-step {count} {slots} {all} {x} {i} w h e = record {
       ∙ w .is;
 }
 
-pub asking-done : {count : ℕ} {slots : List ℕ} {all : Bool} {i : ℕ} → Asking count slots all i → length slots ≤ i → all ≡ allAllowed count slots
+pub asking-done : {count : ℕ} {slots : List ℕ} {all : Bool} {i : ℕ} → Asking count slots all i → length slots ≤ i
+    → all ≡ allAllowed count slots
 unfolding allAllowed
 asking-done {count} {slots} {all} {i} w h =
     let high = w .high in

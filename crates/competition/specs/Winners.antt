@@ -33,22 +33,22 @@ decoyFlag t slot =
 pub record WinnersRun : Type 0 where
   pub answer : Outcome
   pub scores : List Float
-  pub isDecoy : List ℕ
+  pub flags : List ℕ
 
 abbrev pub winnersRun : Outcome → List Float → List ℕ → WinnersRun
-winnersRun answer scores isDecoy = record { answer = answer; scores = scores; isDecoy = isDecoy }
+winnersRun answer scores flags = record { answer = answer; scores = scores; flags = flags }
 
 -- questions 1 and 2, of the table and the lengths of both result columns
 abbrev pub winnersAsked : Table → ℕ → ℕ → Outcome
-winnersAsked t scores isDecoy =
+winnersAsked t scores flags =
     let slots = length (t .forward) in
-    ifNot (tableShort t) TooLong (ifNot (tableFits t && (eqb scores slots && eqb isDecoy slots)) WrongLength Accepted)
+    ifNot (tableShort t) TooLong (ifNot (tableFits t && (eqb scores slots && eqb flags slots)) WrongLength Accepted)
 
 -- every slot's score and flag; a refusal leaves the blanks
 unfoldable pub winners : Table → List Float → List ℕ → WinnersRun
 unfolding tabulated
-winners t scores isDecoy =
+winners t scores flags =
     let slots = length (t .forward) in
-    answered (winnersAsked t (length scores) (length isDecoy))
+    answered (winnersAsked t (length scores) (length flags))
     (winnersRun Accepted (tabulated (winner t) 0 slots) (tabulated (decoyFlag t) 0 slots))
-    (λ r. winnersRun (Refused r) (filled nan scores) (filled 4294967295 isDecoy))
+    (λ r. winnersRun (Refused r) (filled nan scores) (filled 4294967295 flags))

@@ -30,7 +30,8 @@ pub record Rated (labels : List ℤ) (q : List Float) (decoy target i : ℕ) : T
 pub rated-start : {labels : List ℤ} {q : List Float} → length q ≡ length labels → Rated labels q 1 0 0
 rated-start {labels} e = record { same = e; tally = tally-start labels; front = refl }
 
-pub rated-next : {labels : List ℤ} {q : List Float} {decoy target i decoy′ target′ : ℕ} → Rated labels q decoy target i → i < length labels
+pub rated-next : {labels : List ℤ} {q : List Float} {decoy target i decoy′ target′ : ℕ} → Rated labels q decoy target i
+    → i < length labels
     → Tally labels (i + 1) decoy′ target′ → Rated labels (set q i (ratio decoy′ target′)) decoy′ target′ (i + 1)
 unfolding ratioAt
 rated-next {labels} {q} {decoy} {target} {i} {decoy′} {target′} r h t =
@@ -43,7 +44,8 @@ rated-next {labels} {q} {decoy} {target} {i} {decoy′} {target′} r h t =
           (rw (r .front, ratios-at labels i nan h, t .decoy-is, t .target-is));
     }
 
-pub rated-done : {labels : List ℤ} {q : List Float} {decoy target i : ℕ} → Rated labels q decoy target i → length labels ≤ i → q ≡ ratios labels
+pub rated-done : {labels : List ℤ} {q : List Float} {decoy target i : ℕ} → Rated labels q decoy target i
+    → length labels ≤ i → q ≡ ratios labels
 rated-done {labels} {q} {decoy} {target} {i} r h =
     sym (take-all i q (rw (r .same) h)) ∙ r .front ∙ take-all i (ratios labels) (rw length-ratios h)
 
@@ -68,10 +70,12 @@ minimum-walk-start {c} {rs} = record {
   passing-is = rw drop-length;
 }
 
-pub minimum-walk-number : {c : Float} {rs q : List Float} {low : Float} {passing i : ℕ} → MinimumWalk c rs q low passing i → T (not (isNan low))
+pub minimum-walk-number : {c : Float} {rs q : List Float} {low : Float} {passing i : ℕ}
+    → MinimumWalk c rs q low passing i → T (not (isNan low))
 minimum-walk-number {rs = rs} {i = i} w = rw (w .low-is) (minimum-number (drop i rs))
 
-pub minimum-walk-next : {c : Float} {rs q : List Float} {low low′ : Float} {passing i : ℕ} (j : ℕ) → i ≡ j + 1 → MinimumWalk c rs q low passing i
+pub minimum-walk-next : {c : Float} {rs q : List Float} {low low′ : Float} {passing i : ℕ} (j : ℕ) → i ≡ j + 1
+    → MinimumWalk c rs q low passing i
     → low′ ≡ minNumber low (getD q j nan) → MinimumWalk c rs (set q j low′) low′ (passing + boolByte (le low′ c)) j
 unfolding minimum runningMinimum atMost
 minimum-walk-next {c} {rs} {q} {low} {low′} {passing} {i} j e w n =
@@ -93,7 +97,8 @@ minimum-walk-next {c} {rs} {q} {low} {low′} {passing} {i} j e w n =
       passing-is = rw (p, ← m, w .passing-is) (byte-added (le low′ c) (atMost c (runningMinimum (drop i rs))));
     }
 
-pub minimum-walk-done : {c : Float} {rs q : List Float} {low : Float} {passing i : ℕ} → MinimumWalk c rs q low passing i → i ≤ 0
+pub minimum-walk-done : {c : Float} {rs q : List Float} {low : Float} {passing i : ℕ} → MinimumWalk c rs q low passing i
+    → i ≤ 0
     → (passing ≡ atMost c (runningMinimum rs)) × (q ≡ runningMinimum rs)
 minimum-walk-done {c} {rs} {q} {low} {passing} {i} w h =
     let z : i ≡ 0 = omega arith in
@@ -109,7 +114,8 @@ at-most-length c (q ∷ qs) = go (le q c) (at-most-length c qs)
     go true h = omega arith
     go false h = omega arith
 
-pub minimum-walk-bound : {c : Float} {rs q : List Float} {low : Float} {passing i : ℕ} → MinimumWalk c rs q low passing i → passing + i ≤ length rs
+pub minimum-walk-bound : {c : Float} {rs q : List Float} {low : Float} {passing i : ℕ}
+    → MinimumWalk c rs q low passing i → passing + i ≤ length rs
 minimum-walk-bound {c} {rs} {q} {low} {passing} {i} w =
     let h = w .high in
     omega (arith, w .passing-is, at-most-length c (runningMinimum (drop i rs)), length-running-minimum (drop i rs), length-drop i rs)

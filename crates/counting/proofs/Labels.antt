@@ -38,7 +38,8 @@ decoys-and-targets (l ∷ ls) = go (isDecoy l) (decoys ls) (targets ls) (decoys-
     go true m n e = omega arith
     go false m n e = omega arith
 
-pub row-counts : (row : ℕ) (labels : List ℤ) → decoys (take row labels) + targets (take row labels) ≡ min row (length labels)
+pub row-counts : (row : ℕ) (labels : List ℤ)
+    → decoys (take row labels) + targets (take row labels) ≡ min row (length labels)
 row-counts row labels = decoys-and-targets (take row labels) ∙ length-take row labels
 
 -- ---- one row more
@@ -50,7 +51,8 @@ module _ (labels : List ℤ) (i : ℕ) (d : ℤ) (h : i < length labels) where
   pub targets-next : targets (take (i + 1) labels) ≡ targets (take i labels) + cond (isDecoy (getD labels i d)) 0 1
   targets-next = go (isDecoy (getD labels i d)) decoys-next
     where
-      go : (b : Bool) → decoys (take (i + 1) labels) ≡ decoys (take i labels) + cond b 1 0 → targets (take (i + 1) labels) ≡ targets (take i labels) + cond b 0 1
+      go : (b : Bool) → decoys (take (i + 1) labels) ≡ decoys (take i labels) + cond b 1 0
+          → targets (take (i + 1) labels) ≡ targets (take i labels) + cond b 0 1
       go true e = omega (arith, row-counts i labels, row-counts (i + 1) labels)
       go false e = omega (arith, row-counts i labels, row-counts (i + 1) labels)
 
@@ -62,7 +64,8 @@ same-length [] (l ∷ ls) e = cc
 same-length (l ∷ ls) [] e = cc
 same-length (l ∷ ls) (l′ ∷ ls′) e = ap suc (same-length ls ls′ (cc))
 
-pub same-decoys : (ls ls′ : List ℤ) → map isDecoy ls ≡ map isDecoy ls′ → (row : ℕ) → decoys (take row ls) ≡ decoys (take row ls′)
+pub same-decoys : (ls ls′ : List ℤ) → map isDecoy ls ≡ map isDecoy ls′ → (row : ℕ)
+    → decoys (take row ls) ≡ decoys (take row ls′)
 unfolding decoys
 same-decoys [] [] e row = refl
 same-decoys [] (l ∷ ls) e row = cc
@@ -72,7 +75,8 @@ same-decoys (l ∷ ls) (l′ ∷ ls′) e (suc row) =
     let b : isDecoy l ≡ isDecoy l′ = cc in
     rw (b, same-decoys ls ls′ (cc) row)
 
-pub same-targets : (ls ls′ : List ℤ) → map isDecoy ls ≡ map isDecoy ls′ → (row : ℕ) → targets (take row ls) ≡ targets (take row ls′)
+pub same-targets : (ls ls′ : List ℤ) → map isDecoy ls ≡ map isDecoy ls′ → (row : ℕ)
+    → targets (take row ls) ≡ targets (take row ls′)
 same-targets ls ls′ e row =
     omega (arith, row-counts row ls, row-counts row ls′, same-decoys ls ls′ e row, same-length ls ls′ e)
 
@@ -95,6 +99,7 @@ flip-twice label = flip-turns (flip label) ∙ ap not (flip-turns label) ∙ not
     not-not false = refl
 
 -- the other rows stand as they were
-pub flip-row-others : (row : ℕ) (labels : List ℤ) (i : ℕ) (d : ℤ) → (i ≡ row - 1 → ⊥) → getD (flipRow row labels) i d ≡ getD labels i d
+pub flip-row-others : (row : ℕ) (labels : List ℤ) (i : ℕ) (d : ℤ) → (i ≡ row - 1 → ⊥)
+    → getD (flipRow row labels) i d ≡ getD labels i d
 unfolding flipRow
 flip-row-others row labels i d p = getD-set-other labels (row - 1) i (flip (getD labels (row - 1) (pos 0))) d p

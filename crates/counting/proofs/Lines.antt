@@ -55,7 +55,8 @@ module _ (p : ℕ → Bool) where
       top : suc n ≤ row → suc n ≡ row
       top g = omega arith
 
-      go : (b : Bool) → p (suc n) ≡ b → cond b (suc n) (lastRow p n) < row → (lastRow p n < row → row ≤ n → p row ≡ false)
+      go : (b : Bool) → p (suc n) ≡ b → cond b (suc n) (lastRow p n) < row
+          → (lastRow p n < row → row ≤ n → p row ≡ false)
           → (row < suc n) ⊎ (suc n ≤ row) → p row ≡ false
       go true e h before s = absurd (over h)
       go false e h before (inl g) = before h (omega arith)
@@ -74,7 +75,8 @@ module _ (rate : ℕ) (labels : List ℤ) where
   }
 
   -- of two right lines neither comes first
-  not-first : (line other : ℕ) → RightLine rate labels line → RightLine rate labels other → other ≤ length labels → line < other → ⊥
+  not-first : (line other : ℕ) → RightLine rate labels line → RightLine rate labels other → other ≤ length labels
+      → line < other → ⊥
   not-first line other r s h k = elim (s .own) [
     | inl e ↦ omega arith
     | inr e ↦ false≢true (sym (r .none-later other k h) ∙ e)

@@ -33,7 +33,8 @@ pub length-ratios : (labels : List ℤ) → length (ratios labels) ≡ length la
 unfolding ratios
 length-ratios labels = length-tabulated (ratioAt labels) 1 (length labels)
 
-pub ratios-at : (labels : List ℤ) (i : ℕ) (d : Float) → i < length labels → getD (ratios labels) i d ≡ ratioAt labels (i + 1)
+pub ratios-at : (labels : List ℤ) (i : ℕ) (d : Float) → i < length labels
+    → getD (ratios labels) i d ≡ ratioAt labels (i + 1)
 unfolding ratios
 ratios-at labels i d h = getD-tabulated (ratioAt labels) 1 (length labels) i d h ∙ ap (ratioAt labels) (add-comm 1 i)
 
@@ -52,11 +53,13 @@ from-at labels i j h = omega (arith, rw (length-drop, length-ratios) at h)
 -- ---- what users ask
 
 -- a q column never falls down the list
-pub q-rises : (labels : List ℤ) (i : ℕ) → i + 1 < length labels → T (le (getD (qValues labels) i nan) (getD (qValues labels) (i + 1) nan))
+pub q-rises : (labels : List ℤ) (i : ℕ) → i + 1 < length labels
+    → T (le (getD (qValues labels) i nan) (getD (qValues labels) (i + 1) nan))
 unfolding qValues
 q-rises labels i h = rw add-one (running-minimum-rise (ratios labels) i (omega (arith, length-ratios labels)))
 
-pub q-at-most-one : (labels : List ℤ) (i : ℕ) → i < length labels → T (le (getD (qValues labels) i nan) (ofBits binary32 0x3F800000))
+pub q-at-most-one : (labels : List ℤ) (i : ℕ) → i < length labels
+    → T (le (getD (qValues labels) i nan) (ofBits binary32 0x3F800000))
 q-at-most-one labels i h = rw (q-at labels i h) (minimum-most (drop i (ratios labels)))
 
 -- above +0.0
@@ -122,7 +125,8 @@ module _ (labels : List ℤ) (short : length labels ≤ 16777215) where
         ]
 
     -- the rows with a q-value of at most one in k are those up to the right line
-    pub q-at-most : (i : ℕ) → i < length labels → le (getD (qValues labels) i nan) (oneIn k) ≡ leb (i + 1) (rightLine k labels)
+    pub q-at-most : (i : ℕ) → i < length labels
+        → le (getD (qValues labels) i nan) (oneIn k) ≡ leb (i + 1) (rightLine k labels)
     q-at-most i h =
         rw (q-at labels i h)
         (same-test (le (minimum (drop i (ratios labels))) (oneIn k)) (leb (i + 1) (rightLine k labels))

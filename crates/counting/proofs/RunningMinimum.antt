@@ -28,7 +28,8 @@ unfolding minimum
 minimum-most [] = le-refl f32One (minimum-number [])
 minimum-most (r ∷ rs) = rw le-min (or-l (le (minimum rs) f32One) (le r f32One) (minimum-most rs))
 
-pub minimum-above : (c : Float) → T (lt c f32One) → (rs : List Float) → ((j : ℕ) → j < length rs → T (lt c (getD rs j nan))) → T (lt c (minimum rs))
+pub minimum-above : (c : Float) → T (lt c f32One) → (rs : List Float)
+    → ((j : ℕ) → j < length rs → T (lt c (getD rs j nan))) → T (lt c (minimum rs))
 unfolding minimum
 minimum-above c h [] g = h
 minimum-above c h (r ∷ rs) g =
@@ -36,14 +37,16 @@ minimum-above c h (r ∷ rs) g =
     elim (min-either (minimum rs) r) [ inl e ↦ rw e tail | inr e ↦ rw e (g 0 (zero-lt-suc (length rs))) ]
 
 -- at most c where one of them is
-pub minimum-of : (c : Float) (rs : List Float) (j : ℕ) → j < length rs → T (le (getD rs j nan) c) → T (le (minimum rs) c)
+pub minimum-of : (c : Float) (rs : List Float) (j : ℕ) → j < length rs → T (le (getD rs j nan) c)
+    → T (le (minimum rs) c)
 unfolding minimum
 minimum-of c [] j h t = absurd (not-suc-le-zero h)
 minimum-of c (r ∷ rs) zero h t = rw le-min (or-r (le (minimum rs) c) (le r c) t)
 minimum-of c (r ∷ rs) (suc j) h t = rw le-min (or-l (le (minimum rs) c) (le r c) (minimum-of c rs j (le-of-suc-le-suc h) t))
 
 -- and, for a c below 1.0, only there
-pub minimum-from : (c : Float) → T (lt c f32One) → (rs : List Float) → T (le (minimum rs) c) → (j : ℕ) × (j < length rs) × T (le (getD rs j nan) c)
+pub minimum-from : (c : Float) → T (lt c f32One) → (rs : List Float) → T (le (minimum rs) c)
+    → (j : ℕ) × (j < length rs) × T (le (getD rs j nan) c)
 unfolding minimum
 minimum-from c h [] t = absurd (lt→not-le c f32One h t)
 minimum-from c h (r ∷ rs) t = elim (or-split (le (minimum rs) c) (le r c) (rw le-min at t)) [
@@ -58,13 +61,15 @@ unfolding runningMinimum
 length-running-minimum [] = refl
 length-running-minimum (r ∷ rs) = ap suc (length-running-minimum rs)
 
-pub running-minimum-at : (rs : List Float) (i : ℕ) (d : Float) → i < length rs → getD (runningMinimum rs) i d ≡ minimum (drop i rs)
+pub running-minimum-at : (rs : List Float) (i : ℕ) (d : Float) → i < length rs
+    → getD (runningMinimum rs) i d ≡ minimum (drop i rs)
 unfolding runningMinimum
 running-minimum-at [] i d h = absurd (not-suc-le-zero h)
 running-minimum-at (r ∷ rs) zero d h = refl
 running-minimum-at (r ∷ rs) (suc i) d h = running-minimum-at rs i d (le-of-suc-le-suc h)
 
-pub running-minimum-rise : (rs : List Float) (i : ℕ) → suc i < length rs → T (le (getD (runningMinimum rs) i nan) (getD (runningMinimum rs) (suc i) nan))
+pub running-minimum-rise : (rs : List Float) (i : ℕ) → suc i < length rs
+    → T (le (getD (runningMinimum rs) i nan) (getD (runningMinimum rs) (suc i) nan))
 unfolding runningMinimum minimum
 running-minimum-rise [] i h = absurd (not-suc-le-zero h)
 running-minimum-rise (r ∷ []) i h = absurd (not-suc-le-zero (le-of-suc-le-suc h))

@@ -41,7 +41,8 @@ pub tally-start : (labels : List ℤ) → Tally labels 0 1 0
 unfolding decoys targets
 tally-start labels = record { high = zero-le; decoy-is = refl; target-is = refl }
 
-pub tally-next : {labels : List ℤ} {i decoy target : ℕ} → Tally labels i decoy target → i < length labels → mag (getD labels i (pos 0)) < 2 ^ 31
+pub tally-next : {labels : List ℤ} {i decoy target : ℕ} → Tally labels i decoy target → i < length labels
+    → mag (getD labels i (pos 0)) < 2 ^ 31
     → Tally labels (i + 1) (decoy + mark labels i) (target + (1 - mark labels i))
 tally-next {labels} {i} {decoy} {target} t h f =
     let d = t .decoy-is in
@@ -49,7 +50,8 @@ tally-next {labels} {i} {decoy} {target} t h f =
     rw (label-test (getD labels i (pos 0)) f)
     (go (isDecoy (getD labels i (pos 0))) (decoys-next labels i (pos 0) h) (targets-next labels i (pos 0) h))
   where
-    go : (b : Bool) → decoys (take (i + 1) labels) ≡ decoys (take i labels) + cond b 1 0 → targets (take (i + 1) labels) ≡ targets (take i labels) + cond b 0 1
+    go : (b : Bool) → decoys (take (i + 1) labels) ≡ decoys (take i labels) + cond b 1 0
+        → targets (take (i + 1) labels) ≡ targets (take i labels) + cond b 0 1
         → Tally labels (i + 1) (decoy + boolByte b) (target + (1 - boolByte b))
     go true d e = record { high = omega arith; decoy-is = omega arith; target-is = omega arith }
     go false d e = record { high = omega arith; decoy-is = omega arith; target-is = omega arith }
@@ -74,10 +76,12 @@ unfolding decoys
 decoys-start labels = record { high = zero-le; is = refl }
 
 module _ {labels : List ℤ} {i count : ℕ} (w : Decoys labels i count) where
-  pub decoys-step : i < length labels → mag (getD labels i (pos 0)) < 2 ^ 31 → Decoys labels (i + 1) (count + mark labels i)
+  pub decoys-step : i < length labels → mag (getD labels i (pos 0)) < 2 ^ 31
+      → Decoys labels (i + 1) (count + mark labels i)
   decoys-step h f = rw (label-test (getD labels i (pos 0)) f) (go (isDecoy (getD labels i (pos 0))) (decoys-next labels i (pos 0) h))
     where
-      go : (b : Bool) → decoys (take (i + 1) labels) ≡ decoys (take i labels) + cond b 1 0 → Decoys labels (i + 1) (count + boolByte b)
+      go : (b : Bool) → decoys (take (i + 1) labels) ≡ decoys (take i labels) + cond b 1 0
+          → Decoys labels (i + 1) (count + boolByte b)
       go true e = let is = w .is in record { high = omega arith; is = omega arith }
       go false e = let is = w .is in record { high = omega arith; is = omega arith }
 

@@ -13,8 +13,8 @@ use Rattle.counting.specs.Labels.{decoys, targets}
 abbrev pub qualifies : ℕ → List ℤ → ℕ → Bool
 qualifies rate labels row = leb (rate * (decoys (take row labels) + 1)) (targets (take row labels))
 
--- Demand 3: "no later row has 100 times (decoys so far plus one) at most the targets so far, and the line is zero or its
--- own row has"
+-- Demand 3: "no later row has 100 times (decoys so far plus one) at most the targets so far, and the line is zero or
+-- its own row has"
 pub record RightLine (rate : ℕ) (labels : List ℤ) (line : ℕ) : Type 0 where
   pub none-later : (row : ℕ) → line < row → row ≤ length labels → qualifies rate labels row ≡ false
   pub own : (line ≡ 0) ⊎ (qualifies rate labels line ≡ true)

@@ -36,7 +36,8 @@ use Rattle.fdr.proofs.Sides.{Listed, targets-sorted, seen-listed, liste
 -- ---- the ranking and the two passes over its rows
 
 -- sorting leaves what the passes ask
-pub still-ready : {bins forward reverse : ℕ} (keys keys₁ : List ℕ) → keys₁ ≡ sorted keys → RatiosReady bins forward reverse keys → RatiosReady bins forward reverse keys₁
+pub still-ready : {bins forward reverse : ℕ} (keys keys₁ : List ℕ) → keys₁ ≡ sorted keys
+    → RatiosReady bins forward reverse keys → RatiosReady bins forward reverse keys₁
 still-ready {bins} {forward} {reverse} keys keys₁ e w = record {
   some = w .some;
   few = w .few;
@@ -72,8 +73,10 @@ module _ (settings : Settings) (bins : List Float) (t : Table) (keys : List ℕ)
         ∙ running-minimum-capped (ratiosFrom settings bins f32One 0 sides)
 
     rank-all : (count : ℕ) (keys₃ : List ℕ)
-        → count ≡ targetsAtMost (oneIn 100) (map labelOf keys₂) (runningMinimum (map keyNumber keys₂)) → keys₃ ≡ withNumbers (runningMinimum (map keyNumber keys₂)) keys₂
-        → (count ≡ targetsAtMost (oneIn 100) (map labelOf keys) (sideQ settings bins sides)) × (keys₃ ≡ withNumbers (sideQ settings bins sides) keys)
+        → count ≡ targetsAtMost (oneIn 100) (map labelOf keys₂) (runningMinimum (map keyNumber keys₂))
+        → keys₃ ≡ withNumbers (runningMinimum (map keyNumber keys₂)) keys₂
+        → (count ≡ targetsAtMost (oneIn 100) (map labelOf keys) (sideQ settings bins sides))
+        × (keys₃ ≡ withNumbers (sideQ settings bins sides) keys)
     rank-all count keys₃ c m = (
       c
           ∙ ap₂ (targetsAtMost (oneIn 100)) (ap (map labelOf) k ∙ payload-stays (λ place bit. cond (eqb bit 1) (negsuc 0) (pos 0)) capped keys length-capped) minima-are,
@@ -82,9 +85,12 @@ module _ (settings : Settings) (bins : List Float) (t : Table) (keys : List ℕ)
 
 -- and so where the keys were sorted first
 pub rank-done : (settings : Settings) (bins : List Float) (t : Table) (keys₁ keys₀ : List ℕ) → keys₁ ≡ sorted keys₀
-    → (keys₂ : List ℕ) → keys₂ ≡ withNumbers (cappedRatios settings bins t f32One 0 keys₁) keys₁ → (count : ℕ) (keys₃ : List ℕ)
-    → count ≡ targetsAtMost (oneIn 100) (map labelOf keys₂) (runningMinimum (map keyNumber keys₂)) → keys₃ ≡ withNumbers (runningMinimum (map keyNumber keys₂)) keys₂
-    → (count ≡ targetsAtMost (oneIn 100) (map labelOf (sorted keys₀)) (sideQ settings bins (map (keySide t) (sorted keys₀))))
+    → (keys₂ : List ℕ) → keys₂ ≡ withNumbers (cappedRatios settings bins t f32One 0 keys₁) keys₁
+    → (count : ℕ) (keys₃ : List ℕ)
+    → count ≡ targetsAtMost (oneIn 100) (map labelOf keys₂) (runningMinimum (map keyNumber keys₂))
+    → keys₃ ≡ withNumbers (runningMinimum (map keyNumber keys₂)) keys₂
+    → (count ≡ targetsAtMost (oneIn 100) (map labelOf (sorted keys₀))
+    (sideQ settings bins (map (keySide t) (sorted keys₀))))
     × (keys₃ ≡ withNumbers (sideQ settings bins (map (keySide t) (sorted keys₀))) (sorted keys₀))
 rank-done settings bins t keys₁ keys₀ s keys₂ k count keys₃ c m =
     subst (λ (ks : List ℕ). (count ≡ targetsAtMost (oneIn 100) (map labelOf ks) (sideQ settings bins (map (keySide t) ks))) × (keys₃ ≡ withNumbers (sideQ settings bins (map (keySide t) ks)) ks)) s
@@ -93,7 +99,8 @@ rank-done settings bins t keys₁ keys₀ s keys₂ k count keys₃ c m =
 -- ---- the rows
 
 -- every key's slot is one of the table's, so that its names are places of the names' column
-names-fit : (n m : ℕ) → m ≡ 2 * n → (keys : List ℕ) → All (SlotInBounds n) keys → All (λ k. NamesInBounds m (placeOf k)) keys
+names-fit : (n m : ℕ) → m ≡ 2 * n → (keys : List ℕ) → All (SlotInBounds n) keys
+    → All (λ k. NamesInBounds m (placeOf k)) keys
 names-fit n m e keys w = all-map (SlotInBounds n) (λ k. NamesInBounds m (placeOf k)) (λ k h. omega arith) keys w
 
 labels-same : (t : Table) (keys : List ℕ) → map labelOf keys ≡ map sideLabel (map (keySide t) keys)
@@ -112,7 +119,8 @@ pub record Packs (bins : List Float) (t : Table) (slots : List ℕ) (labels : Li
 
 pub record Ranks (settings : Settings) (bins : List Float) (t : Table) (keys spare : List ℕ) (count : ℕ)
     (keys₁ spare₁ : List ℕ) : Type 0 where
-  pub count-is : count ≡ targetsAtMost (oneIn 100) (map labelOf (sorted keys)) (sideQ settings bins (map (keySide t) (sorted keys)))
+  pub count-is : count
+      ≡ targetsAtMost (oneIn 100) (map labelOf (sorted keys)) (sideQ settings bins (map (keySide t) (sorted keys)))
   pub keys-are : keys₁ ≡ withNumbers (sideQ settings bins (map (keySide t) (sorted keys))) (sorted keys)
   pub same-keys : length keys₁ ≡ length keys
   pub same-spare : length spare₁ ≡ length spare
@@ -129,7 +137,8 @@ module _ {bins : List Float} {t : Table} {slots : List ℕ} {labels : List ℤ} 
   in-bounds = rw (w .front) (listed-in-bounds t 0 (length (t .forward)) (seenSides t) (w .ready .pack .short) listed)
 
   -- what `rank` asks
-  pub rank-asks : (length (take rows spare₀) ≡ length (take rows keys₁)) × RatiosReady (length bins) (length (t .forward)) (length (t .reverse)) (take rows keys₁)
+  pub rank-asks : (length (take rows spare₀) ≡ length (take rows keys₁))
+      × RatiosReady (length bins) (length (t .forward)) (length (t .reverse)) (take rows keys₁)
   rank-asks = (
     length-take-le rows spare₀ (omega (arith, w .few, w .ready .spare-length, w .ready .pack .keys-length)) ∙ sym part,
     record {
@@ -179,7 +188,8 @@ module _ {bins : List Float} {t : Table} {slots : List ℕ} {labels : List ℤ} 
     spare-length = length-front spare₀ spare₁ rows (r .same-spare)
 
     -- what `name_q_values` asks
-    pub names-ask : All (λ k. NamesInBounds (length (spare₁ ++ drop rows spare₀)) (placeOf k)) (take rows (part₁ ++ drop rows keys₁))
+    pub names-ask : All (λ k. NamesInBounds (length (spare₁ ++ drop rows spare₀)) (placeOf k))
+        (take rows (part₁ ++ drop rows keys₁))
     names-ask = rw front-is (bounded (length (spare₁ ++ drop rows spare₀)) (spare-length ∙ w .ready .spare-length))
 
     -- after its call of `name_q_values`
@@ -207,11 +217,14 @@ module _ {bins : List Float} {t : Table} {slots : List ℕ} {labels : List ℤ} 
       column-bits = rw column-of (names-bits (settings .names) (withNumbers qs ks) ones (hold-numbers qs ks numbers-qs) (ones-bits (length (spare₁ ++ drop rows spare₀))))
 
       pub rows-ask : All NumberBits column
-          × (All (λ s. eqb s noPart ≡ false → NamesInBounds (length column) s) slots × ((length labels ≡ length slots) × (length q₀ ≡ length slots)))
+          × (All (λ s. eqb s noPart ≡ false → NamesInBounds (length column) s) slots ×
+          ((length labels ≡ length slots) × (length q₀ ≡ length slots)))
       rows-ask = (column-bits, (rows-in-bounds, (w .ready .labels-length, w .ready .q-length)))
 
       -- a name reads its q-value
-      name-reads : (name : ℕ) → name < length column → ofBits binary32 (getD column name 0) ≡ qOf (settings .names) (rankedSides t) (sideQ settings bins (rankedSides t)) name f32One
+      name-reads : (name : ℕ) → name < length column
+          → ofBits binary32 (getD column name 0)
+          ≡ qOf (settings .names) (rankedSides t) (sideQ settings bins (rankedSides t)) name f32One
       unfolding ones
       name-reads name h =
           ap (λ (c : List ℕ). ofBits binary32 (getD c name 0)) column-of
@@ -222,7 +235,8 @@ module _ {bins : List Float} {t : Table} {slots : List ℕ} {labels : List ℤ} 
           (getD-replicate (length (spare₁ ++ drop rows spare₀)) name 1065353216 0 (omega (arith, column-length, spare-length)))
 
       row-reads : (slot : ℕ) (label : ℤ) → (eqb slot noPart ≡ false → NamesInBounds (length column) slot)
-          → readAtName (settings .names) column slot label ≡ rowQ (settings .names) (rankedSides t) (sideQ settings bins (rankedSides t)) slot label
+          → readAtName (settings .names) column slot label
+          ≡ rowQ (settings .names) (rankedSides t) (sideQ settings bins (rankedSides t)) slot label
       row-reads slot label h =
           let name = nameOf (settings .names) slot (isDecoy label) in
           go (eqb slot noPart) (λ p. name-reads name (name-in-bounds (settings .names) slot (isDecoy label) (length column) (h p)))
@@ -231,9 +245,12 @@ module _ {bins : List Float} {t : Table} {slots : List ℕ} {labels : List ℤ} 
           go true k = refl
           go false k = k refl
 
-      pub assigned-all : (q₁ : List Float) → q₁ ≡ tabulated (λ i. readAtName (settings .names) column (getD slots i 0) (getD labels i (pos 0))) 0 (length slots)
+      pub assigned-all : (q₁ : List Float)
+          → q₁ ≡ tabulated (λ i. readAtName (settings .names) column (getD slots i 0) (getD labels i (pos 0))) 0
+          (length slots)
           → (keys₂ spare₂ : List ℕ) → keys₂ ≡ filled 0 (part₁ ++ drop rows keys₁) → spare₂ ≡ filled 0 column
-          → (count ≡ passing settings bins t) × ((q₁ ≡ rowsQ settings bins t slots labels) × ((keys₂ ≡ filled 0 keys₀) × (spare₂ ≡ filled 0 spare₀)))
+          → (count ≡ passing settings bins t)
+          × ((q₁ ≡ rowsQ settings bins t slots labels) × ((keys₂ ≡ filled 0 keys₀) × (spare₂ ≡ filled 0 spare₀)))
       unfolding passing rowsQ
       assigned-all q₁ reads keys₂ spare₂ k s = (
         r .count-is

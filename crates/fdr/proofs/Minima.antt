@@ -76,7 +76,8 @@ module _ (keys₀ : List ℕ) where
       pub minima-holds : All HoldsNumber keys₀ → HoldsNumber (getD keys j 0)
       minima-holds h = subst HoldsNumber (sym minima-key) (all-at HoldsNumber 0 keys₀ h j (omega (arith, w .high)))
 
-      pub minima-step : (x m c : Float) (bit v : ℕ) → x ≡ keyNumber (getD keys j 0) → m ≡ minNumber least x → c ≡ oneIn 100
+      pub minima-step : (x m c : Float) (bit v : ℕ) → x ≡ keyNumber (getD keys j 0) → m ≡ minNumber least x
+          → c ≡ oneIn 100
           → bit ≡ decoyBit (getD keys j 0) → v ≡ withNumber m (getD keys j 0)
           → Minima j m (passing + boolByte (le m c && eqb bit 0)) (set keys j v)
       unfolding minimum runningMinimum targetsAtMost withNumbers

@@ -25,7 +25,8 @@ use Rattle.fdr.specs.Inner.Passes.{keySide, keyNumber, keyName, writtenA
 
 -- ---- a name's number
 
-pub name-in-bounds : (names : Names) (slot : ℕ) (decoy : Bool) (n : ℕ) → NamesInBounds n slot → nameOf names slot decoy < n
+pub name-in-bounds : (names : Names) (slot : ℕ) (decoy : Bool) (n : ℕ) → NamesInBounds n slot
+    → nameOf names slot decoy < n
 name-in-bounds Two slot true n h = h
 name-in-bounds Two slot false n h = omega arith
 name-in-bounds One slot decoy n h = omega arith
@@ -50,7 +51,8 @@ module _ (names : Names) (keys column₀ : List ℕ) {i : ℕ} {column : List �
     e : name ≡ keyName names (getD keys i 0)
     e = n ∙ ap₂ (λ (x y : ℕ). nameOf names x (eqb y 1)) p b
 
-    pub naming-step : (upper : ℕ) → upper ≡ upperOf (getD keys i 0) → Naming names keys column₀ (i + 1) (set column name upper)
+    pub naming-step : (upper : ℕ) → upper ≡ upperOf (getD keys i 0)
+        → Naming names keys column₀ (i + 1) (set column name upper)
     unfolding writtenAtNames
     naming-step upper u = record {
       high = omega arith;
@@ -62,14 +64,17 @@ module _ (names : Names) (keys column₀ : List ℕ) {i : ℕ} {column : List �
     }
 
     -- the name is one of the column's places
-    pub naming-in-bounds : (m : ℕ) → length column₀ ≡ m → All (λ k. NamesInBounds m (placeOf k)) keys → name < length column
+    pub naming-in-bounds : (m : ℕ) → length column₀ ≡ m → All (λ k. NamesInBounds m (placeOf k)) keys
+        → name < length column
     naming-in-bounds m l all =
         rw (e, w .same, l) (name-in-bounds names (placeOf (getD keys i 0)) _ m (all-at (λ k. NamesInBounds m (placeOf k)) 0 keys all i h))
 
 -- ---- what a name reads
 
-pub names-read : (names : Names) (t : Table) (keys column : List ℕ) (name : ℕ) → All (λ k. NamesInBounds (length column) (placeOf k)) keys
-    → ofBits binary32 (getD (writtenAtNames names keys column) name 0) ≡ qOf names (map (keySide t) keys) (map keyNumber keys) name (ofBits binary32 (getD column name 0))
+pub names-read : (names : Names) (t : Table) (keys column : List ℕ) (name : ℕ)
+    → All (λ k. NamesInBounds (length column) (placeOf k)) keys
+    → ofBits binary32 (getD (writtenAtNames names keys column) name 0)
+    ≡ qOf names (map (keySide t) keys) (map keyNumber keys) name (ofBits binary32 (getD column name 0))
 unfolding writtenAtNames qOf
 names-read names t [] column name w = refl
 names-read names t (k ∷ ks) column name w =
@@ -81,7 +86,8 @@ names-read names t (k ∷ ks) column name w =
 
 -- ---- each place holds the bits of a number
 
-pub names-bits : (names : Names) (keys column : List ℕ) → All HoldsNumber keys → All NumberBits column → All NumberBits (writtenAtNames names keys column)
+pub names-bits : (names : Names) (keys column : List ℕ) → All HoldsNumber keys → All NumberBits column
+    → All NumberBits (writtenAtNames names keys column)
 unfolding writtenAtNames
 names-bits names [] column w h = h
 names-bits names (k ∷ ks) column w h =

@@ -44,7 +44,8 @@ module _ (settings : Settings) (bins : List Float) where
   ratios-fit sum targets [] = tt
   ratios-fit sum targets (s ∷ ss) = (div-fits binary32 _ _, ratios-fit _ _ ss)
 
-  pub length-ratios : (sum : Float) (targets : ℕ) (sides : List Side) → length (ratiosFrom settings bins sum targets sides) ≡ length sides
+  pub length-ratios : (sum : Float) (targets : ℕ) (sides : List Side)
+      → length (ratiosFrom settings bins sum targets sides) ≡ length sides
   unfolding ratiosFrom
   length-ratios sum targets [] = refl
   length-ratios sum targets (s ∷ ss) = ap suc (length-ratios _ _ ss)
@@ -72,7 +73,8 @@ hold-numbers (q ∷ qs) [] h = tt
 hold-numbers (q ∷ qs) (k ∷ ks) h = (subst NumberBits (sym (upper-of-with (toBits binary32 q) k)) (number-bits q (h .0)), hold-numbers qs ks (h .1))
 
 -- they can be read back
-pub numbers-back : (qs : List Float) (keys : List ℕ) → All F32Number qs → length qs ≡ length keys → map keyNumber (withNumbers qs keys) ≡ qs
+pub numbers-back : (qs : List Float) (keys : List ℕ) → All F32Number qs → length qs ≡ length keys
+    → map keyNumber (withNumbers qs keys) ≡ qs
 unfolding withNumbers
 numbers-back [] keys h e = refl
 numbers-back (q ∷ qs) [] h e = absurd (omega arith)
@@ -90,14 +92,16 @@ payload-stays f (q ∷ qs) (k ∷ ks) e =
     let u = toBits binary32 q in
     ap₂ _∷_ (ap₂ f (ap (λ (n : ℕ). n / 2) (payload-of-with u k)) (bit-of-with u k)) (payload-stays f qs ks (omega arith))
 
-pub places-stay : (P : ℕ → Type 0) (qs : List Float) (keys : List ℕ) → All (λ k. P (placeOf k)) keys → All (λ k. P (placeOf k)) (withNumbers qs keys)
+pub places-stay : (P : ℕ → Type 0) (qs : List Float) (keys : List ℕ) → All (λ k. P (placeOf k)) keys
+    → All (λ k. P (placeOf k)) (withNumbers qs keys)
 unfolding withNumbers
 places-stay P [] keys w = tt
 places-stay P (q ∷ qs) [] w = tt
 places-stay P (q ∷ qs) (k ∷ ks) w = (subst (λ (n : ℕ). P (n / 2)) (sym (payload-of-with (toBits binary32 q) k)) (w .0), places-stay P qs ks (w .1))
 
 -- it does not matter what was written before
-pub written-over : (qs rs : List Float) (keys : List ℕ) → length rs ≡ length keys → withNumbers qs (withNumbers rs keys) ≡ withNumbers qs keys
+pub written-over : (qs rs : List Float) (keys : List ℕ) → length rs ≡ length keys
+    → withNumbers qs (withNumbers rs keys) ≡ withNumbers qs keys
 unfolding withNumbers
 written-over [] rs keys e = refl
 written-over (q ∷ qs) [] [] e = refl

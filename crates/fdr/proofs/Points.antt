@@ -40,7 +40,8 @@ q-rises settings bins t i h =
 
 -- ---- under one name a slot's two sides have one q-value
 
-pub one-name-same : (sides : List Side) (qs : List Float) (slot : ℕ) (label label′ : ℤ) → rowQ One sides qs slot label ≡ rowQ One sides qs slot label′
+pub one-name-same : (sides : List Side) (qs : List Float) (slot : ℕ) (label label′ : ℤ)
+    → rowQ One sides qs slot label ≡ rowQ One sides qs slot label′
 one-name-same sides qs slot label label′ = refl
 
 -- ---- "two target slots scored 2.0 and 1.0, bins 0.5, 0.25, least 1, step 1: q 0.875 for both, count 0", whatever the
@@ -53,8 +54,10 @@ abbrev pub twoTargets : Table
 twoTargets = tableOf (fin false 1 (pos 1) ∷ fin false 1 (pos 0) ∷ []) (f32Min ∷ f32Min ∷ []) (1 ∷ 1 ∷ []) (0 ∷ 0 ∷ [])
 
 pub two-targets : (names : Names) (a b c d e f g h : ℕ) (x y : Float)
-    → assignQValue (fromOne names) halves twoTargets (0 ∷ 1 ∷ []) (pos 1 ∷ pos 1 ∷ []) (a ∷ b ∷ c ∷ d ∷ []) (e ∷ f ∷ g ∷ h ∷ []) (x ∷ y ∷ [])
-    ≡ rankedRun (Passing 0) (0 ∷ 0 ∷ 0 ∷ 0 ∷ []) (0 ∷ 0 ∷ 0 ∷ 0 ∷ []) (fin false 7 (negsuc 2) ∷ fin false 7 (negsuc 2) ∷ [])
+    → assignQValue (fromOne names) halves twoTargets (0 ∷ 1 ∷ []) (pos 1 ∷ pos 1 ∷ []) (a ∷ b ∷ c ∷ d ∷ [])
+    (e ∷ f ∷ g ∷ h ∷ []) (x ∷ y ∷ [])
+    ≡ rankedRun (Passing 0) (0 ∷ 0 ∷ 0 ∷ 0 ∷ []) (0 ∷ 0 ∷ 0 ∷ 0 ∷ [])
+    (fin false 7 (negsuc 2) ∷ fin false 7 (negsuc 2) ∷ [])
 unfolding assignQValue rankedFrom inserted before le minimum minNumber ofBits div add toUnsigned sub mul ofInt
 two-targets Two a b c d e f g h x y = refl
 two-targets One a b c d e f g h x y = refl
@@ -64,17 +67,23 @@ two-targets One a b c d e f g h x y = refl
 -- part, give 1.0.
 
 abbrev pub twoSides : Table
-twoSides = tableOf (fin false 1 (pos 1) ∷ fin false 1 (pos 1) ∷ []) (fin false 1 (pos 0) ∷ f32Min ∷ []) (1 ∷ 1 ∷ []) (1 ∷ 0 ∷ [])
+twoSides =
+    tableOf (fin false 1 (pos 1) ∷ fin false 1 (pos 1) ∷ []) (fin false 1 (pos 0) ∷ f32Min ∷ []) (1 ∷ 1 ∷ [])
+    (1 ∷ 0 ∷ [])
 
 abbrev pub bins : List Float
 bins = fin false 1 (negsuc 0) ∷ fin false 0 (pos 0) ∷ []
 
-pub two-names : rowsQ (fromOne Two) bins twoSides (0 ∷ 0 ∷ 1 ∷ 1 ∷ noPart ∷ []) (pos 1 ∷ negsuc 0 ∷ pos 1 ∷ negsuc 0 ∷ pos 1 ∷ [])
-    ≡ fin false 1 (negsuc 0) ∷ fin false 3 (negsuc 1) ∷ fin false 1 (negsuc 0) ∷ fin false 1 (pos 0) ∷ fin false 1 (pos 0) ∷ []
+pub two-names : rowsQ (fromOne Two) bins twoSides (0 ∷ 0 ∷ 1 ∷ 1 ∷ noPart ∷ [])
+    (pos 1 ∷ negsuc 0 ∷ pos 1 ∷ negsuc 0 ∷ pos 1 ∷ [])
+    ≡ fin false 1 (negsuc 0) ∷ fin false 3 (negsuc 1) ∷ fin false 1 (negsuc 0) ∷ fin false 1 (pos 0) ∷ fin false 1
+    (pos 0) ∷ []
 unfolding rowsQ rankedFrom inserted before le minimum minNumber ofBits div add toUnsigned sub mul ofInt
 two-names = refl
 
-pub one-name : rowsQ (fromOne One) bins twoSides (0 ∷ 0 ∷ 1 ∷ 1 ∷ noPart ∷ []) (pos 1 ∷ negsuc 0 ∷ pos 1 ∷ negsuc 0 ∷ pos 1 ∷ [])
-    ≡ fin false 3 (negsuc 1) ∷ fin false 3 (negsuc 1) ∷ fin false 1 (negsuc 0) ∷ fin false 1 (negsuc 0) ∷ fin false 1 (pos 0) ∷ []
+pub one-name : rowsQ (fromOne One) bins twoSides (0 ∷ 0 ∷ 1 ∷ 1 ∷ noPart ∷ [])
+    (pos 1 ∷ negsuc 0 ∷ pos 1 ∷ negsuc 0 ∷ pos 1 ∷ [])
+    ≡ fin false 3 (negsuc 1) ∷ fin false 3 (negsuc 1) ∷ fin false 1 (negsuc 0) ∷ fin false 1 (negsuc 0) ∷ fin false 1
+    (pos 0) ∷ []
 unfolding rowsQ rankedFrom inserted before le minimum minNumber ofBits div add toUnsigned sub mul ofInt
 one-name = refl

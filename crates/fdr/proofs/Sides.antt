@@ -75,7 +75,8 @@ module _ (t : Table) (forward-fit : (i : ℕ) → T (fits binary32 (getD (t .for
       last = omega arith
 
       go : (f r : Bool) (later : List Side) → Listed t (suc slot * 2) hi later
-          → Listed t (slot * 2) hi ((cond f (sideOf t slot false ∷ []) [] ++ cond r (sideOf t slot true ∷ []) []) ++ later)
+          → Listed t (slot * 2) hi ((cond f (sideOf t slot false ∷ []) [] ++ cond r (sideOf t slot true ∷ []) []) ++
+          later)
       go true true later w = (of-forward slot hi last, (of-reverse slot (suc (slot * 2 + 0)) hi (omega arith) last, listed-down t (suc slot * 2) (suc (slot * 2 + 1)) hi later (omega arith) w))
       go true false later w = (of-forward slot hi last, listed-down t (suc slot * 2) (suc (slot * 2 + 0)) hi later (omega arith) w)
       go false true later w = (of-reverse slot (slot * 2) hi (omega arith) last, listed-down t (suc slot * 2) (suc (slot * 2 + 1)) hi later (omega arith) w)
@@ -94,7 +95,8 @@ bit-is key = go (eqb (decoyBit key) 1)
     go true = refl
     go false = refl
 
-key-side : (t : Table) (lo hi : ℕ) (x : Float) (s : Side) → hi ≤ 4294967296 → OfTable t lo hi s → keySide t (packed x (sidePayload s)) ≡ s
+key-side : (t : Table) (lo hi : ℕ) (x : Float) (s : Side) → hi ≤ 4294967296 → OfTable t lo hi s
+    → keySide t (packed x (sidePayload s)) ≡ s
 key-side t lo hi x s h w =
     let key = packed x (sidePayload s) in
     let small : s .slot < 2147483648 = omega (arith, w .high) in
@@ -103,14 +105,16 @@ key-side t lo hi x s h w =
 abbrev pub payloadAt : Table → List Side → ℕ → ℕ
 payloadAt t sides place = sidePayload (getD sides place (sideOf t 0 false))
 
-pub listed-at : (t : Table) (lo hi : ℕ) (ss : List Side) → Listed t lo hi ss → (p : ℕ) → p < length ss → OfTable t lo hi (getD ss p (sideOf t 0 false))
+pub listed-at : (t : Table) (lo hi : ℕ) (ss : List Side) → Listed t lo hi ss → (p : ℕ) → p < length ss
+    → OfTable t lo hi (getD ss p (sideOf t 0 false))
 listed-at t lo hi [] w p h = absurd (not-suc-le-zero h)
 listed-at t lo hi (s ∷ ss) w zero h = w .0
 listed-at t lo hi (s ∷ ss) w (suc p) h =
     let l : lo ≤ suc (sidePayload s) = omega (arith, w .0 .low) in
     listed-at t lo hi ss (listed-down t (suc (sidePayload s)) lo hi ss l (w .1)) p (le-of-suc-le-suc h)
 
-listed-rises : (t : Table) (lo hi : ℕ) (ss : List Side) → Listed t lo hi ss → (p q : ℕ) → p < q → q < length ss → payloadAt t ss p < payloadAt t ss q
+listed-rises : (t : Table) (lo hi : ℕ) (ss : List Side) → Listed t lo hi ss → (p q : ℕ) → p < q → q < length ss
+    → payloadAt t ss p < payloadAt t ss q
 listed-rises t lo hi [] w p q l h = absurd (not-suc-le-zero h)
 listed-rises t lo hi (s ∷ ss) w p zero l h = absurd (not-suc-le-zero l)
 listed-rises t lo hi (s ∷ ss) w zero (suc q) l h = listed-at t (suc (sidePayload s)) hi ss (w .1) q (le-of-suc-le-suc h) .low
@@ -123,7 +127,8 @@ listed-fit t lo hi (s ∷ ss) w = (w .0 .fit, listed-fit t (suc (sidePayload s))
 -- ---- the keys
 
 -- each key's slot is one of the table's
-pub listed-in-bounds : (t : Table) (lo n : ℕ) (ss : List Side) → n ≤ longest → Listed t lo (n * 2) ss → All (SlotInBounds n) (map sideKey ss)
+pub listed-in-bounds : (t : Table) (lo n : ℕ) (ss : List Side) → n ≤ longest → Listed t lo (n * 2) ss
+    → All (SlotInBounds n) (map sideKey ss)
 listed-in-bounds t lo n [] l w = tt
 listed-in-bounds t lo n (s ∷ ss) l w =
     let small : s .slot < n = omega (arith, w .0 .high) in (
@@ -138,14 +143,16 @@ few-targets t slot zero = le-refl 0
 few-targets t slot (suc k) = go (isSeen (getD (t .forwardSeen) slot 0)) (isSeen (getD (t .reverseSeen) slot 0)) (sidesFrom t (suc slot) k) (few-targets t (suc slot) k)
   where
     go : (f r : Bool) (later : List Side) → targetKeys (map sideKey later) ≤ k
-        → targetKeys (map sideKey ((cond f (sideOf t slot false ∷ []) [] ++ cond r (sideOf t slot true ∷ []) []) ++ later)) ≤ suc k
+        → targetKeys (map sideKey ((cond f (sideOf t slot false ∷ []) [] ++ cond r (sideOf t slot true ∷ []) []) ++
+        later)) ≤ suc k
     go true true later h = let d = bit-of-packed (getD (t .reverse) slot nan) slot true in omega arith
     go true false later h = omega arith
     go false true later h = let d = bit-of-packed (getD (t .reverse) slot nan) slot true in omega arith
     go false false later h = omega arith
 
 -- the list's keys, as the ranking packs them
-as-packed : (payloads : ℕ → ℕ) (a : ℕ) (t : Table) (ss : List Side) → ((i : ℕ) → i < length ss → payloads (a + i) ≡ payloadAt t ss i)
+as-packed : (payloads : ℕ → ℕ) (a : ℕ) (t : Table) (ss : List Side)
+    → ((i : ℕ) → i < length ss → payloads (a + i) ≡ payloadAt t ss i)
     → map sideKey ss ≡ packedFrom payloads a (map (λ (s : Side). s .score) ss)
 unfolding packedFrom
 as-packed payloads a t [] h = refl
@@ -177,7 +184,8 @@ sorted-sides t short w =
     small p h = omega (arith, listed-at t 0 (length (t .forward) * 2) (seenSides t) w p h .high)
 
     go : (rows : List Row) → All (λ r. r .place < length (seenSides t)) rows
-        → map (λ r. keySide t (packed (r .score) (payloadAt t (seenSides t) (r .place)))) rows ≡ map (λ r. getD (seenSides t) (r .place) (sideOf t 0 false)) rows
+        → map (λ r. keySide t (packed (r .score) (payloadAt t (seenSides t) (r .place)))) rows
+        ≡ map (λ r. getD (seenSides t) (r .place) (sideOf t 0 false)) rows
     go [] v = refl
     go (r ∷ rows) v =
         let hi = length (t .forward) * 2 in

@@ -34,7 +34,8 @@ packing-start t keys e = record { high = zero-le; same = e; few = zero-le; is = 
     minus-none : (n : ℕ) → n - 0 ≡ n
     minus-none n = omega arith
 
-side-key : (seen : Bool) (s : Side) (key : ℕ) → key ≡ sideKey s → cond seen (key ∷ []) [] ≡ map sideKey (cond seen (s ∷ []) [])
+side-key : (seen : Bool) (s : Side) (key : ℕ) → key ≡ sideKey s
+    → cond seen (key ∷ []) [] ≡ map sideKey (cond seen (s ∷ []) [])
 side-key true s key e = ap (λ (k : ℕ). k ∷ []) e
 side-key false s key e = refl
 
@@ -43,7 +44,8 @@ pub packing-step : (t : Table) {slot rows : ℕ} {keys : List ℕ} → Packing t
     → (key₁ rows₁ : ℕ) (keys₁ : List ℕ) → key₁ ≡ packed (getD (t .forward) slot nan) payload₁ → rows₁ ≤ rows + 1
     → take rows₁ keys₁ ≡ take rows keys ++ cond (isSeen (getD (t .forwardSeen) slot 0)) (key₁ ∷ []) []
     → (key₂ rows₂ : ℕ) (keys₂ : List ℕ) → key₂ ≡ packed (getD (t .reverse) slot nan) payload₂ → rows₂ ≤ rows₁ + 1
-    → take rows₂ keys₂ ≡ take rows₁ keys₁ ++ cond (isSeen (getD (t .reverseSeen) slot 0)) (key₂ ∷ []) [] → length keys₂ ≡ length keys
+    → take rows₂ keys₂ ≡ take rows₁ keys₁ ++ cond (isSeen (getD (t .reverseSeen) slot 0)) (key₂ ∷ []) []
+    → length keys₂ ≡ length keys
     → Packing t (slot + 1) rows₂ keys₂
 unfolding sidesFrom
 packing-step t {slot} {rows} {keys} w h p₁ p₂ key₁ rows₁ keys₁ k₁ l₁ e₁ key₂ rows₂ keys₂ k₂ l₂ e₂ s =

@@ -26,7 +26,8 @@ use Rattle.fdr.specs.Inner.Passes.{keySide, targetKeys, withNumber, with
 seen-one : (bit targets : ℕ) → bit < 2 → targets + (1 - bit) ≡ cond (eqb bit 1) targets (suc targets)
 seen-one bit targets l = go (eqb bit 1) (eqb-true bit 1) (eqb-false bit 1)
   where
-    go : (d : Bool) → (d ≡ true → bit ≡ 1) → (d ≡ false → bit ≡ 1 → ⊥) → targets + (1 - bit) ≡ cond d targets (suc targets)
+    go : (d : Bool) → (d ≡ true → bit ≡ 1) → (d ≡ false → bit ≡ 1 → ⊥)
+        → targets + (1 - bit) ≡ cond d targets (suc targets)
     go true h n = let o = h refl in omega arith
     go false h n = let o = n refl in omega arith
 
@@ -74,8 +75,11 @@ module _ (settings : Settings) (bins : List Float) (t : Table) (keys₀ : List �
           ap (λ (ks : List ℕ). target + targetKeys ks) (sym (drop-cons keys₀ i 0 h)) ∙ w .count in
           rw (e, summing-key) (omega arith)
 
-      pub summing-step : (score pep r : Float) (bit v : ℕ) → score ≡ keySide t (getD keys i 0) .score → pep ≡ errorOf settings bins score → bit ≡ decoyBit (getD keys i 0) → (count : Float) → count ≡ f32OfCount (target + (1 - bit))
-          → r ≡ minNumber (ofBits binary32 1065353216) (div binary32 (add binary32 sum pep) count) → v ≡ withNumber r (getD keys i 0)
+      pub summing-step : (score pep r : Float) (bit v : ℕ) → score ≡ keySide t (getD keys i 0) .score
+          → pep ≡ errorOf settings bins score → bit ≡ decoyBit (getD keys i 0) → (count : Float)
+          → count ≡ f32OfCount (target + (1 - bit))
+          → r ≡ minNumber (ofBits binary32 1065353216) (div binary32 (add binary32 sum pep) count)
+          → v ≡ withNumber r (getD keys i 0)
           → Summing (i + 1) (add binary32 sum pep) (target + (1 - bit)) (set keys i v)
       unfolding ratiosFrom withNumbers targetKeys
       summing-step score pep r bit v score-is pep-is bit-is count count-is r-is v-is =

@@ -30,7 +30,8 @@ abbrev pub half : Float
 half = fin false 1 (negsuc 0)
 
 -- a number above 0 by the fraction that it equals
-pub convert-value : (w : ℕ) (x : Float) (a c : ℕ) → 0 < c → HasValue x false a c → toUnsigned w x ≡ min (a / c) (2 ^ w - 1)
+pub convert-value : (w : ℕ) (x : Float) (a c : ℕ) → 0 < c → HasValue x false a c
+    → toUnsigned w x ≡ min (a / c) (2 ^ w - 1)
 unfolding toUnsigned
 convert-value w (fin s m e) a c C v = rw (v .0) (ap (λ (n : ℕ). min n (2 ^ w - 1)) (div-same (m * up e) (down e) a c (down-pos e) C (v .1)))
 
@@ -79,13 +80,15 @@ module _ (w : ℕ) where
       let k = convert-most x in
       omega (arith, one-mul (2 ^ w), div-one (1 * 2 ^ w))
 
-  pub convert-min : (a b : Float) → T (not (isNan a)) → T (not (isNan b)) → toUnsigned w (minNumber a b) ≡ min (toUnsigned w a) (toUnsigned w b)
+  pub convert-min : (a b : Float) → T (not (isNan a)) → T (not (isNan b))
+      → toUnsigned w (minNumber a b) ≡ min (toUnsigned w a) (toUnsigned w b)
   convert-min a b p q = elim (min-either a b) [
     | inl e ↦ rw e (let h : toUnsigned w a ≤ toUnsigned w b = convert-mono a b (rw e at (min-le-right a b q)) in omega arith)
     | inr e ↦ rw e (let h : toUnsigned w b ≤ toUnsigned w a = convert-mono b a (rw e at (min-le-left a b p)) in omega arith)
   ]
 
-  pub convert-max : (a b : Float) → T (not (isNan a)) → T (not (isNan b)) → toUnsigned w (maxNumber a b) ≡ max (toUnsigned w a) (toUnsigned w b)
+  pub convert-max : (a b : Float) → T (not (isNan a)) → T (not (isNan b))
+      → toUnsigned w (maxNumber a b) ≡ max (toUnsigned w a) (toUnsigned w b)
   convert-max a b p q = elim (max-either a b) [
     | inl e ↦ rw e (let h : toUnsigned w b ≤ toUnsigned w a = convert-mono b a (rw e at (max-ge-right a b q)) in omega arith)
     | inr e ↦ rw e (let h : toUnsigned w a ≤ toUnsigned w b = convert-mono a b (rw e at (max-ge-left a b p)) in omega arith)
@@ -116,7 +119,8 @@ module _ (w : ℕ) where
   under-div f (fin false n d) infinite p = refl
   under-div f (fin false n d) (some {s} {m} {e}) p = go (eqb n 0) (eqb (suc m) 0)
     where
-      go : (a b : Bool) → toUnsigned w (cond a (cond b nan (inf true)) (round f true (suc m * up e * down d) (n * up d * down e))) ≡ 0
+      go : (a b : Bool)
+          → toUnsigned w (cond a (cond b nan (inf true)) (round f true (suc m * up e * down d) (n * up d * down e))) ≡ 0
       go true true = refl
       go true false = refl
       go false b =

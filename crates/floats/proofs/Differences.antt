@@ -49,7 +49,8 @@ module _ (f : Format) where
   sum-lt true false a b h = let l = ltb-true 0 (a + b) h in (under (a + b) l, rw (add-comm b a) (above (a + b) l))
   sum-lt true true a b h = let l = ltb-true b a h in (rw (le-ltb a b (omega arith), h) (under (a - b) (omega arith)), rw h (above (a - b) (omega arith)))
 
-  sub-fin : (s : Bool) (m : ℕ) (e : ℤ) (t : Bool) (n : ℕ) (d : ℤ) → T (fits f (fin s m e)) → T (fits f (fin t n d)) → T (lt (fin s m e) (fin t n d))
+  sub-fin : (s : Bool) (m : ℕ) (e : ℤ) (t : Bool) (n : ℕ) (d : ℤ) → T (fits f (fin s m e)) → T (fits f (fin t n d))
+      → T (lt (fin s m e) (fin t n d))
       → T (lt (sub f (fin s m e) (fin t n d)) plusZero) × T (lt plusZero (sub f (fin t n d) (fin s m e)))
   sub-fin s m e t n d p q h =
       let u = unitsOf f m e in
@@ -60,7 +61,8 @@ module _ (f : Format) where
       rw (sub-over s t u u′ (2 ^ low f) L f (fin s m e) (fin t n d) v v′, sub-over t s u′ u (2 ^ low f) L f (fin t n d) (fin s m e) v′ v)
       (sum-lt s t u u′ (sym (lt-over s t u u′ (2 ^ low f) L (fin s m e) (fin t n d) v v′) ∙ is-true (lt (fin s m e) (fin t n d)) h))
 
-  pub sub-lt : (x y : Float) → T (fits f x) → T (fits f y) → T (lt x y) → T (lt (sub f x y) plusZero) × T (lt plusZero (sub f y x))
+  pub sub-lt : (x y : Float) → T (fits f x) → T (fits f y) → T (lt x y)
+      → T (lt (sub f x y) plusZero) × T (lt plusZero (sub f y x))
   unfolding lt sub add neg
   sub-lt nan y p q h = absurd h
   sub-lt (inf s) nan p q h = absurd h

@@ -22,7 +22,8 @@ module _ (f : Float → Float → Float) (R : Float → Float → Type 0) (same 
       let h = left m x p in
       trans (folded f (f m x) l) (f m x) m (folded-start (f m x) l (number (f m x) m h)) h
 
-  folded-any : (m : Float) (l : List Float) (k : ℕ) → k < length l → T (not (isNan (getD l k nan))) → R (folded f m l) (getD l k nan)
+  folded-any : (m : Float) (l : List Float) (k : ℕ) → k < length l → T (not (isNan (getD l k nan)))
+      → R (folded f m l) (getD l k nan)
   unfolding folded
   folded-any m [] k h p = absurd (not-suc-le-zero h)
   folded-any m (x ∷ l) zero h p =
@@ -38,7 +39,8 @@ module _ (m : Float) (l : List Float) (k : ℕ) (h : k < length l) (p : T (not (
   greatest-ge =
       folded-any maxNumber (λ (a b : Float). T (le b a)) le-refl (λ a b c r q. le-trans c b a q r) (λ a b. le-right b a) max-ge-left max-ge-right m l k h p
 
-passed : (f : Float → Float → Float) → ((m : Float) → f m nan ≡ m) → (m : Float) (l r : List Float) → folded f m (l ++ nan ∷ r) ≡ folded f m (l ++ r)
+passed : (f : Float → Float → Float) → ((m : Float) → f m nan ≡ m) → (m : Float) (l r : List Float)
+    → folded f m (l ++ nan ∷ r) ≡ folded f m (l ++ r)
 unfolding folded
 passed f e m [] r = ap (λ (x : Float). folded f x r) (e m)
 passed f e m (x ∷ l) r = passed f e (f m x) l r
@@ -46,5 +48,6 @@ passed f e m (x ∷ l) r = passed f e (f m x) l r
 pub least-passes-nan : (m : Float) (l r : List Float) → folded minNumber m (l ++ nan ∷ r) ≡ folded minNumber m (l ++ r)
 least-passes-nan = passed minNumber min-nan
 
-pub greatest-passes-nan : (m : Float) (l r : List Float) → folded maxNumber m (l ++ nan ∷ r) ≡ folded maxNumber m (l ++ r)
+pub greatest-passes-nan : (m : Float) (l r : List Float)
+    → folded maxNumber m (l ++ nan ∷ r) ≡ folded maxNumber m (l ++ r)
 greatest-passes-nan = passed maxNumber max-nan

@@ -26,23 +26,28 @@ use Rattle.floats.proofs.Values.{unitsOf, toBits-of}
 unsigned : (x : Float) → T (fits binary64 x) → toBits binary64 x % 9223372036854775808 ≡ toBits binary64 (absolute x)
 unsigned x h = go (negative x) (toBits binary64 (absolute x)) (toBits binary64 x) (bits-sign binary64 x) (magnitude-lt binary64 x h)
   where
-    go : (s : Bool) (a b : ℕ) → b ≡ cond s 9223372036854775808 0 + a → a < 9223372036854775808 → b % 9223372036854775808 ≡ a
+    go : (s : Bool) (a b : ℕ) → b ≡ cond s 9223372036854775808 0 + a → a < 9223372036854775808
+        → b % 9223372036854775808 ≡ a
     go true a b e l = omega arith
     go false a b e l = omega arith
 
-pub sign-off : (x : Float) → T (fits binary64 x) → ofBits binary64 (toBits binary64 x % 9223372036854775808) ≡ absolute x
+pub sign-off : (x : Float) → T (fits binary64 x)
+    → ofBits binary64 (toBits binary64 x % 9223372036854775808) ≡ absolute x
 sign-off x h = ap (ofBits binary64) (unsigned x h) ∙ ofBits-toBits binary64 (absolute x) (absolute-fits binary64 x h)
 
 -- and the rest is the sign
-pub sign-part : (x : Float) → T (fits binary64 x) → toBits binary64 x - toBits binary64 x % 9223372036854775808 ≡ cond (negative x) 9223372036854775808 0
+pub sign-part : (x : Float) → T (fits binary64 x)
+    → toBits binary64 x - toBits binary64 x % 9223372036854775808 ≡ cond (negative x) 9223372036854775808 0
 sign-part x h = go (negative x) (toBits binary64 (absolute x)) (toBits binary64 x) (bits-sign binary64 x) (magnitude-lt binary64 x h)
   where
-    go : (s : Bool) (a b : ℕ) → b ≡ cond s 9223372036854775808 0 + a → a < 9223372036854775808 → b - b % 9223372036854775808 ≡ cond s 9223372036854775808 0
+    go : (s : Bool) (a b : ℕ) → b ≡ cond s 9223372036854775808 0 + a → a < 9223372036854775808
+        → b - b % 9223372036854775808 ≡ cond s 9223372036854775808 0
     go true a b e l = omega arith
     go false a b e l = omega arith
 
 -- the sign's bit added to a magnitude's bits
-pub sign-on : (s : Bool) (y : Float) → T (not (isNan y)) → negative y ≡ false → toBits binary64 y + cond s 9223372036854775808 0 ≡ toBits binary64 (cond s (neg y) y)
+pub sign-on : (s : Bool) (y : Float) → T (not (isNan y)) → negative y ≡ false
+    → toBits binary64 y + cond s 9223372036854775808 0 ≡ toBits binary64 (cond s (neg y) y)
 unfolding neg isNan
 sign-on false y k e = add-zero (toBits binary64 y)
 sign-on true nan k e = absurd k
@@ -101,7 +106,9 @@ exponent m e =
 
 -- ---- an exponent field alone is a power of two
 
-ofBits-is : (b : ℕ) → ofBits binary64 b ≡ ofFields binary64 (leb 9223372036854775808 b) (b % 9223372036854775808 / 4503599627370496) (b % 4503599627370496)
+ofBits-is : (b : ℕ)
+    → ofBits binary64 b ≡ ofFields binary64 (leb 9223372036854775808 b) (b % 9223372036854775808 / 4503599627370496)
+    (b % 4503599627370496)
 unfolding ofBits
 ofBits-is b = refl
 
@@ -113,7 +120,8 @@ under-ones x h =
     differ : suc x ≡ 2047 → ⊥
     differ e = omega arith
 
-pub power : (x : ℕ) → suc x < 2047 → HasValue (ofBits binary64 (suc x * 4503599627370496)) false (4503599627370496 * 2 ^ x) (2 ^ 1074)
+pub power : (x : ℕ) → suc x < 2047
+    → HasValue (ofBits binary64 (suc x * 4503599627370496)) false (4503599627370496 * 2 ^ x) (2 ^ 1074)
 power x h =
     subst (λ (v : Float). HasValue v false (4503599627370496 * 2 ^ x) (2 ^ 1074))
     (sym (ofBits-is (suc x * 4503599627370496)

@@ -97,7 +97,8 @@ module _ (s t : Bool) (a c b d : ℕ) (C : 0 < c) (D : 0 < d) where
       let p : x * g * (b * c) ≡ x * c * (b * g) = simp (mul-assoc, mul-comm, mul-left-comm) in
       p ∙ rw (h, ← k) (simp (mul-assoc, mul-comm, mul-left-comm))
 
-  pub div-at : (f : Format) (x y : Float) → 0 < b → HasValue x s a c → HasValue y t b d → div f x y ≡ round f (unlike s t) (a * d) (b * c)
+  pub div-at : (f : Format) (x y : Float) → 0 < b → HasValue x s a c → HasValue y t b d
+      → div f x y ≡ round f (unlike s t) (a * d) (b * c)
   unfolding div
   div-at f (fin s' m e) (fin t' zero g) B v w = absurd (lt-irrefl 0 (rw (← (w .1), zero-mul, zero-mul) at (mul-pos B (down-pos g))))
   div-at f (fin s' m e) (fin t' (suc n) g) B v w =
@@ -108,7 +109,8 @@ module _ (s t : Bool) (a c b d : ℕ) (C : 0 < c) (D : 0 < d) where
 -- ---- over one denominator
 
 -- ±x / k and ±y / k, which are ±a / c and ±b / c
-sum-same : (f : Format) (s t : Bool) (x y k a b c : ℕ) → 0 < k → 0 < c → x * c ≡ a * k → y * c ≡ b * k → sum f s x t y k ≡ sum f s a t b c
+sum-same : (f : Format) (s t : Bool) (x y k a b c : ℕ) → 0 < k → 0 < c → x * c ≡ a * k → y * c ≡ b * k
+    → sum f s x t y k ≡ sum f s a t b c
 unfolding sum
 sum-same f s t x y k a b c K C h l =
     rw (
@@ -137,7 +139,8 @@ module _ (s t : Bool) (a b c : ℕ) (C : 0 < c) where
       (mul-right-comm (m * up e) (down g) c ∙ ap (λ (z : ℕ). z * down g) (v .1) ∙ mul-assoc a (down e) (down g))
       (mul-right-comm (n * up g) (down e) c ∙ ap (λ (z : ℕ). z * down e) (w .1) ∙ mul-right-comm b (down g) (down e) ∙ mul-assoc b (down e) (down g)))
 
-pub sub-over : (s t : Bool) (a b c : ℕ) → 0 < c → (f : Format) (x y : Float) → HasValue x s a c → HasValue y t b c → sub f x y ≡ sum f s a (not t) b c
+pub sub-over : (s t : Bool) (a b c : ℕ) → 0 < c → (f : Format) (x y : Float) → HasValue x s a c → HasValue y t b c
+    → sub f x y ≡ sum f s a (not t) b c
 unfolding sub
 sub-over s t a b c C f x y v w = add-over s (not t) a b c C f x (neg y) v (neg-value y t b c w)
 
@@ -158,10 +161,12 @@ lt-values x y a b c C = lt-over false false a b c C x y
 pub le-values : (x y : Float) (a b c : ℕ) → 0 < c → HasValue x false a c → HasValue y false b c → le x y ≡ leb a b
 le-values x y a b c C v w = le-at false false a c b c C C x y v w ∙ simp add-zero (leb-scale a b c C)
 
-pub add-values : (f : Format) (x y : Float) (a b c : ℕ) → 0 < c → HasValue x false a c → HasValue y false b c → add f x y ≡ round f false (a + b) c
+pub add-values : (f : Format) (x y : Float) (a b c : ℕ) → 0 < c → HasValue x false a c → HasValue y false b c
+    → add f x y ≡ round f false (a + b) c
 add-values f x y a b c C v w = add-over false false a b c C f x y v w ∙ sum-like f false a b c
 
-pub sub-values : (f : Format) (x y : Float) (a b c : ℕ) → 0 < c → b ≤ a → HasValue x false a c → HasValue y false b c → sub f x y ≡ round f false (a - b) c
+pub sub-values : (f : Format) (x y : Float) (a b c : ℕ) → 0 < c → b ≤ a → HasValue x false a c → HasValue y false b c
+    → sub f x y ≡ round f false (a - b) c
 unfolding sum
 sub-values f x y a b c C h v w = sub-over false false a b c C f x y v w ∙ rw (le-ltb a b h)
 
@@ -175,13 +180,15 @@ neg-neg (fin true m e) = refl
 neg-neg (fin false m e) = refl
 
 turned : (s t : Bool) (x y : ℕ)
-    → leb (gain (not s) x + loss (not t) y) (gain (not t) y + loss (not s) x) ≡ leb (gain t y + loss s x) (gain s x + loss t y)
+    → leb (gain (not s) x + loss (not t) y) (gain (not t) y + loss (not s) x)
+    ≡ leb (gain t y + loss s x) (gain s x + loss t y)
 turned true true x y = ap₂ leb (add-comm x 0) (add-comm y 0)
 turned true false x y = ap₂ leb (add-comm x y) refl
 turned false true x y = ap₂ leb refl (add-comm y x)
 turned false false x y = ap₂ leb (add-comm 0 y) (add-comm 0 x)
 
-pub neg-le : (s t : Bool) (a c b d : ℕ) → 0 < c → 0 < d → (x y : Float) → HasValue x s a c → HasValue y t b d → le (neg x) (neg y) ≡ le y x
+pub neg-le : (s t : Bool) (a c b d : ℕ) → 0 < c → 0 < d → (x y : Float) → HasValue x s a c → HasValue y t b d
+    → le (neg x) (neg y) ≡ le y x
 neg-le s t a c b d C D x y v w =
     le-at (not s) (not t) a c b d C D (neg x) (neg y) (neg-value x s a c v) (neg-value y t b d w)
     ∙ turned s t (a * d) (b * c)
@@ -192,7 +199,9 @@ neg-units : (f : Format) (s : Bool) (q k : ℕ) → neg (units f s q k) ≡ unit
 unfolding neg units odd
 neg-units f s q k = go (ltb (q * 2 ^ k) (2 ^ (low f + suc (emax f)))) q
   where
-    go : (b : Bool) (q : ℕ) → neg (cond b (odd (suc (prec f)) s q k (low f)) (inf s)) ≡ cond b (odd (suc (prec f)) (not s) q k (low f)) (inf (not s))
+    go : (b : Bool) (q : ℕ)
+        → neg (cond b (odd (suc (prec f)) s q k (low f)) (inf s))
+        ≡ cond b (odd (suc (prec f)) (not s) q k (low f)) (inf (not s))
     go true zero = refl
     go true (suc q) = refl
     go false q = refl

@@ -52,7 +52,8 @@ module _ (s : Bool) (m : ℕ) (e : ℤ) (h : T (fits binary64 (fin s m e))) wher
 
 -- ---- what `nearest_f32` returns, of a magnitude
 
-pub infinite : (x : Float) → T (fits binary64 x) → negative x ≡ false → le narrowLimit x ≡ true → converted binary32 x ≡ inf false
+pub infinite : (x : Float) → T (fits binary64 x) → negative x ≡ false → le narrowLimit x ≡ true
+    → converted binary32 x ≡ inf false
 unfolding converted le ofBits
 infinite nan h p t = absurd (false≢true t)
 infinite (inf s) h p t = ap inf p
@@ -81,7 +82,8 @@ max-unit n h =
     ]
 
 -- below the end the exponent field is small
-pub field-lt : (x : Float) → T (fits binary64 x) → T (not (isNan x)) → negative x ≡ false → le narrowLimit x ≡ false → toBits binary64 x / 4503599627370496 ≤ 1150
+pub field-lt : (x : Float) → T (fits binary64 x) → T (not (isNan x)) → negative x ≡ false → le narrowLimit x ≡ false
+    → toBits binary64 x / 4503599627370496 ≤ 1150
 unfolding le isNan ofBits
 field-lt nan h k p t = absurd k
 field-lt (inf true) h k p t = absurd (true≢false p)
@@ -91,7 +93,8 @@ field-lt (fin false m e) h k p t =
     let N = unitsOf binary64 m e in
     rw (exponent m e) (omega (arith, place-of N (stays false m e h t) .most))
 
-pub sum-rounds : (x w : Float) → T (fits binary64 x) → T (not (isNan x)) → negative x ≡ false → le narrowLimit x ≡ false → w ≡ unitAt (max 897 (toBits binary64 x / 4503599627370496))
+pub sum-rounds : (x w : Float) → T (fits binary64 x) → T (not (isNan x)) → negative x ≡ false → le narrowLimit x ≡ false
+    → w ≡ unitAt (max 897 (toBits binary64 x / 4503599627370496))
     → sub binary64 (add binary64 x w) w ≡ converted binary32 x
 unfolding converted le isNan ofBits
 sum-rounds nan w h k p t q = absurd k
@@ -111,7 +114,8 @@ sum-rounds (fin false m e) w h k p t q =
 
 -- ---- and the sign goes on last
 
-pub resigned : (x : Float) → cond (negative x) (neg (converted binary32 (absolute x))) (converted binary32 (absolute x)) ≡ converted binary32 x
+pub resigned : (x : Float)
+    → cond (negative x) (neg (converted binary32 (absolute x))) (converted binary32 (absolute x)) ≡ converted binary32 x
 unfolding converted neg
 resigned nan = refl
 resigned (inf true) = refl

@@ -48,7 +48,8 @@ size-is n j l h =
     le-antisymm (size-le n (suc j) h) (lt-of-not-le (λ (g : size n ≤ j). not-le-of-lt (lt-of-lt-of-le (size-lt n) (pow-mono g)) l))
 
 -- what `round` keeps, where it drops j digits
-grid-at : (f : Format) (a c j : ℕ) → drop (prec f) (a * 2 ^ low f) c ≡ j → grid f a c ≡ closest (a * 2 ^ low f) (c * 2 ^ j) * 2 ^ j
+grid-at : (f : Format) (a c j : ℕ) → drop (prec f) (a * 2 ^ low f) c ≡ j
+    → grid f a c ≡ closest (a * 2 ^ low f) (c * 2 ^ j) * 2 ^ j
 grid-at f a c j e = ap (λ (k : ℕ). closest (a * 2 ^ low f) (c * 2 ^ k) * 2 ^ k) e
 
 -- ---- the two roundings of N
@@ -165,7 +166,8 @@ module _ (N i : ℕ) (h : Place N i) where
       high e = omega arith
 
   -- the sum, minus the power of two that was added, is N rounded to an f32
-  pub rounded : (x y : Float) → HasValue x false N (2 ^ 1074) → HasValue y false (addedPower i) (2 ^ 1074) → closest N (lastDigit i) * 2 ^ i < 2 ^ 277
+  pub rounded : (x y : Float) → HasValue x false N (2 ^ 1074) → HasValue y false (addedPower i) (2 ^ 1074)
+      → closest N (lastDigit i) * 2 ^ i < 2 ^ 277
       → sub binary64 (add binary64 x y) y ≡ round binary32 false N (2 ^ 1074)
   rounded x y v w fine =
       let c = closest N (lastDigit i) in

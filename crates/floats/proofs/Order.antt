@@ -85,15 +85,18 @@ through p n c p′ n′ c′ p″ n″ c″ C h k =
 abbrev cross : Bool → ℕ → ℤ → Bool → ℕ → ℤ → ℕ
 cross s m e t n d = gain s (m * up e) * down d + loss t (n * up d) * down e
 
-lt-fin : (s : Bool) (m : ℕ) (e : ℤ) (t : Bool) (n : ℕ) (d : ℤ) → lt (fin s m e) (fin t n d) ≡ ltb (cross s m e t n d) (cross t n d s m e)
+lt-fin : (s : Bool) (m : ℕ) (e : ℤ) (t : Bool) (n : ℕ) (d : ℤ)
+    → lt (fin s m e) (fin t n d) ≡ ltb (cross s m e t n d) (cross t n d s m e)
 unfolding lt
 lt-fin s m e t n d = below-is s (m * up e * down d) t (n * up d * down e) ∙ simp (gain-mul, loss-mul)
 
-eq-fin : (s : Bool) (m : ℕ) (e : ℤ) (t : Bool) (n : ℕ) (d : ℤ) → eq (fin s m e) (fin t n d) ≡ eqb (cross s m e t n d) (cross t n d s m e)
+eq-fin : (s : Bool) (m : ℕ) (e : ℤ) (t : Bool) (n : ℕ) (d : ℤ)
+    → eq (fin s m e) (fin t n d) ≡ eqb (cross s m e t n d) (cross t n d s m e)
 unfolding eq
 eq-fin s m e t n d = level-is s (m * up e * down d) t (n * up d * down e) ∙ simp (gain-mul, loss-mul)
 
-le-fin : (s : Bool) (m : ℕ) (e : ℤ) (t : Bool) (n : ℕ) (d : ℤ) → le (fin s m e) (fin t n d) ≡ leb (cross s m e t n d) (cross t n d s m e)
+le-fin : (s : Bool) (m : ℕ) (e : ℤ) (t : Bool) (n : ℕ) (d : ℤ)
+    → le (fin s m e) (fin t n d) ≡ leb (cross s m e t n d) (cross t n d s m e)
 unfolding le
 le-fin s m e t n d = rw (le, lt-fin, eq-fin) (lt-or-eq (cross s m e t n d) (cross t n d s m e))
 

@@ -34,13 +34,15 @@ unfolding ofInt
 count-value n h = round-whole binary32 false n h
 
 -- the ratio of two counts up to 2^24 is one rounding
-pub one-rounding : (d t : ℕ) → d ≤ 2 ^ 24 → 0 < t → t ≤ 2 ^ 24 → div binary32 (ofInt binary32 (pos d)) (ofInt binary32 (pos t)) ≡ round binary32 false d t
+pub one-rounding : (d t : ℕ) → d ≤ 2 ^ 24 → 0 < t → t ≤ 2 ^ 24
+    → div binary32 (ofInt binary32 (pos d)) (ofInt binary32 (pos t)) ≡ round binary32 false d t
 one-rounding d t h p k =
     div-at false false d 1 t 1 (lit≤ tt) (lit≤ tt) binary32 (ofInt binary32 (pos d)) (ofInt binary32 (pos t)) p (count-value d h) (count-value t k)
     ∙ rw (mul-one d, mul-one t)
 
 -- a ratio to a count of none
-pub ratio-none : (d : ℕ) → 0 < d → d ≤ 2 ^ 24 → div binary32 (ofInt binary32 (pos d)) (ofInt binary32 (pos 0)) ≡ inf false
+pub ratio-none : (d : ℕ) → 0 < d → d ≤ 2 ^ 24
+    → div binary32 (ofInt binary32 (pos d)) (ofInt binary32 (pos 0)) ≡ inf false
 unfolding ofInt div
 ratio-none d p h = over-zero (ofInt binary32 (pos d)) (positive-of-value (ofInt binary32 (pos d)) d 1 (count-value d h) p)
   where
@@ -48,14 +50,16 @@ ratio-none d p h = over-zero (ofInt binary32 (pos d)) (positive-of-value (ofInt 
     over-zero (fin false m e) h = rw (ne-eqb m 0 (λ (z : m ≡ 0). omega (arith, ltb→lt 0 m h)))
 
 -- Rust counts by adding 1.0 in f32
-pub count-next : (n : ℕ) → n < 2 ^ 24 → add binary32 (ofInt binary32 (pos n)) (ofBits binary32 0x3F800000) ≡ ofInt binary32 (pos (n + 1))
+pub count-next : (n : ℕ) → n < 2 ^ 24
+    → add binary32 (ofInt binary32 (pos n)) (ofBits binary32 0x3F800000) ≡ ofInt binary32 (pos (n + 1))
 unfolding ofInt ofBits
 count-next n h =
     add-at binary32 (ofInt binary32 (pos n)) (fin false 1 (pos 0)) false n 1 1 1 (lit≤ tt) (lit≤ tt) (count-value n (omega arith)) (refl, refl)
     ∙ rw (mul-one n)
 
 -- a larger ratio rounds to no smaller float
-pub ratio-mono : (d t c u : ℕ) → 0 < t → 0 < u → d * u ≤ c * t → T (le (round binary32 false d t) (round binary32 false c u))
+pub ratio-mono : (d t c u : ℕ) → 0 < t → 0 < u → d * u ≤ c * t
+    → T (le (round binary32 false d t) (round binary32 false c u))
 ratio-mono = round-mono binary32
 
 -- ---- a ratio against one in k

@@ -29,7 +29,8 @@ module _ (s : Bool) (m : ℕ) (e : ℤ) (p : T (fits binary64 (fin s m e))) wher
   value : HasValue (fin s m e) s N (2 ^ 1074)
   value = units-value binary64 s m e (in-format binary64 s m e p)
 
-  units-from-half : T (le half (fin s m e)) → gain false (1 * 2 ^ 1074) + loss s (N * 2) ≤ gain s (N * 2) + loss false (1 * 2 ^ 1074)
+  units-from-half : T (le half (fin s m e))
+      → gain false (1 * 2 ^ 1074) + loss s (N * 2) ≤ gain s (N * 2) + loss false (1 * 2 ^ 1074)
   units-from-half h = leb→le _ _ (rw (le-at false s 1 2 N (2 ^ 1074) (lit≤ tt) (pow-pos 1074) half (fin s m e) (refl, refl) value) at h)
 
   to-2-53 : T (lt (fin s m e) (fin false 1 (pos 53))) → T (below s (N * 1) false (2 ^ 53 * 2 ^ 1074))
@@ -65,12 +66,14 @@ module _ (b n : ℕ) (least : 1074 ≤ size n) (most : size n ≤ 1127)
 pub record ShiftedDigits (x : Float) : Type 0 where
   pub least : 1022 ≤ toBits binary64 x / 4503599627370496
   pub most : toBits binary64 x / 4503599627370496 ≤ 1075
-  pub is : (toBits binary64 x % 4503599627370496 + 4503599627370496) / 2 ^ (1075 - toBits binary64 x / 4503599627370496) ≡ toUnsigned 64 x
+  pub is : (toBits binary64 x % 4503599627370496 + 4503599627370496) / 2 ^ (1075 - toBits binary64 x / 4503599627370496)
+      ≡ toUnsigned 64 x
 
 uncapped : (n : ℕ) → n < 2 ^ 53 → min n (2 ^ 64 - 1) ≡ n
 uncapped n h = omega arith
 
-pub shifted-digits : (x : Float) → T (fits binary64 x) → T (le half x) → T (lt x (fin false 1 (pos 53))) → ShiftedDigits x
+pub shifted-digits : (x : Float) → T (fits binary64 x) → T (le half x) → T (lt x (fin false 1 (pos 53)))
+    → ShiftedDigits x
 unfolding le lt
 shifted-digits nan p from to = absurd from
 shifted-digits (inf true) p from to = absurd from

@@ -110,7 +110,8 @@ above-sign (fin true m e) t = absurd t
 above-sign (fin false m e) t = refl
 
 -- the greater of anything and a number above zero is above zero, and so is its ceiling: abs() changes nothing
-pub ceil-max-absolute : (f : Format) (x y : Float) → T (lt (fin false 0 (pos 0)) y) → absolute (ceiled f (maxNumber x y)) ≡ ceiled f (maxNumber x y)
+pub ceil-max-absolute : (f : Format) (x y : Float) → T (lt (fin false 0 (pos 0)) y)
+    → absolute (ceiled f (maxNumber x y)) ≡ ceiled f (maxNumber x y)
 ceil-max-absolute f x y t =
     let z = fin false 0 (pos 0) in
     let up = max-ge-right x y (le-right z y (lt→le z y t)) in

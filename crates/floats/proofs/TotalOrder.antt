@@ -46,7 +46,8 @@ before-nan (inf s) = refl
 before-nan (fin s m e) = refl
 
 -- off the NaN it goes by value, and then by sign
-by-value : (x y : Float) → T (not (isNan y)) → T (before x y) → T (lt x y) ⊎ (T (le x y) × T (negative x) × T (not (negative y)))
+by-value : (x y : Float) → T (not (isNan y)) → T (before x y)
+    → T (lt x y) ⊎ (T (le x y) × T (negative x) × T (not (negative y)))
 unfolding before isNan
 by-value nan y q p = absurd p
 by-value (inf s) nan q p = absurd q
@@ -146,7 +147,8 @@ bits-tell : (f : Format) (x y : Float) → T (fits f x) → T (fits f y) → toB
 bits-tell f x y p q e = sym (ofBits-toBits f x p) ∙ ap (ofBits f) e ∙ ofBits-toBits f y q
 
 -- two magnitudes' bits, by the order of their values as fractions
-bits-mono : (f : Format) (m : ℕ) (e : ℤ) (n : ℕ) (d : ℤ) → m * up e * down d ≤ n * up d * down e → toBits f (fin false m e) ≤ toBits f (fin false n d)
+bits-mono : (f : Format) (m : ℕ) (e : ℤ) (n : ℕ) (d : ℤ) → m * up e * down d ≤ n * up d * down e
+    → toBits f (fin false m e) ≤ toBits f (fin false n d)
 bits-mono f m e n d h =
     let l : m * up e * 2 ^ low f * down d ≤ n * up d * 2 ^ low f * down e = simp mul-right-comm (simp mul-right-comm at (mul-le-mul-right (2 ^ low f) h)) in
     let u = div-mono (m * up e * 2 ^ low f) (down e) (n * up d * 2 ^ low f) (down d) (down-pos e) (down-pos d) l in
@@ -225,7 +227,8 @@ minus-first : (a b : ℕ) → (ltb 0 (a + b) || (eqb a b && eqb a 0) && true) �
 minus-first a b = elim (eq-zero-or-pos (a + b)) [ inl z ↦ rw (and-true, both-zero, z) | inr h ↦ rw (lt-ltb 0 (a + b) h) ]
 
 by-sign : (x y : Float)
-    → before x y ≡ cond (negative x) (cond (negative y) (before (absolute y) (absolute x)) true) (cond (negative y) false (before (absolute x) (absolute y)))
+    → before x y ≡ cond (negative x) (cond (negative y) (before (absolute y) (absolute x)) true)
+    (cond (negative y) false (before (absolute x) (absolute y)))
 unfolding before
 by-sign nan nan = refl
 by-sign nan (inf t) = always t false
@@ -258,13 +261,15 @@ unfolding orderKey
 key-is f x = key-form (top f) (negative x) (toBits f (absolute x)) (toBits f x) (bits-sign f x)
 
 -- such keys stand first by sign, then by magnitude
-placed : (t : ℕ) (s u : Bool) (a b : ℕ) → a < t → b < t → ltb (keyOf t s a) (keyOf t u b) ≡ cond s (cond u (ltb b a) true) (cond u false (ltb a b))
+placed : (t : ℕ) (s u : Bool) (a b : ℕ) → a < t → b < t
+    → ltb (keyOf t s a) (keyOf t u b) ≡ cond s (cond u (ltb b a) true) (cond u false (ltb a b))
 placed t true true a b p q = same-ltb (t - 1 - a) (t - 1 - b) b a (λ h. omega arith) (λ h. omega arith)
 placed t true false a b p q = lt-ltb (t - 1 - a) (t + b) (omega arith)
 placed t false true a b p q = le-ltb (t + a) (t - 1 - b) (omega arith)
 placed t false false a b p q = same-ltb (t + a) (t + b) a b (λ h. omega arith) (λ h. omega arith)
 
-pub key-orders : (f : Format) (x y : Float) → T (fits f x) → T (fits f y) → ltb (orderKey f x) (orderKey f y) ≡ before x y
+pub key-orders : (f : Format) (x y : Float) → T (fits f x) → T (fits f y)
+    → ltb (orderKey f x) (orderKey f y) ≡ before x y
 key-orders f x y p q =
     let p′ = absolute-fits f x p in
     let q′ = absolute-fits f y q in
@@ -294,7 +299,8 @@ key-injective f x y p q e =
     (sym (key-is f x) ∙ e ∙ key-is f y)
     ∙ sym (bits-sign f y))
 
-pub before-total : (f : Format) (x y : Float) → T (fits f x) → T (fits f y) → T (before x y) ⊎ ((x ≡ y) ⊎ T (before y x))
+pub before-total : (f : Format) (x y : Float) → T (fits f x) → T (fits f y)
+    → T (before x y) ⊎ ((x ≡ y) ⊎ T (before y x))
 before-total f x y p q =
     let a = orderKey f x in
     let b = orderKey f y in
@@ -342,7 +348,8 @@ signed-fits f x p = go (toBits f x / top f) (toBits f x % top f) (div-lt-iff-lt-
     go zero r a b = rw zero-mul zero-le
     go (suc q) r a b = let z : q ≡ 0 = omega arith in rw (z, one-mul) (omega arith)
 
-pub signed-below : (f : Format) (x : Float) → T (fits f x) → toBits f x / top f * (toBits f x % top f + toBits f x % top f + 1) < 2 * top f
+pub signed-below : (f : Format) (x : Float) → T (fits f x)
+    → toBits f x / top f * (toBits f x % top f + toBits f x % top f + 1) < 2 * top f
 signed-below f x p = omega (arith, signed-fits f x p, mod-lt (toBits f x) (top-pos f))
 
 -- where the number a stands to b
@@ -350,6 +357,7 @@ abbrev pub comparedNumbers : ℕ → ℕ → Ordering
 comparedNumbers a b = cond (ltb a b) Less (cond (ltb b a) Greater Equal)
 
 -- two floats compare as their keys do
-pub compared-by-key : (f : Format) (x y : Float) (a b : ℕ) → T (fits f x) → T (fits f y) → a ≡ orderKey f x → b ≡ orderKey f y → compared x y ≡ comparedNumbers a b
+pub compared-by-key : (f : Format) (x y : Float) (a b : ℕ) → T (fits f x) → T (fits f y) → a ≡ orderKey f x
+    → b ≡ orderKey f y → compared x y ≡ comparedNumbers a b
 unfolding compared
 compared-by-key f x y a b p q i j = rw (i, j, key-orders f x y p q, key-orders f y x q p)

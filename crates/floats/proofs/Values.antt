@@ -72,12 +72,14 @@ place l (negsuc a) h = (
 )
 
 -- a value of the format is its units times the smallest value, and is written m * 2 ^ j there
-pub in-units : (f : Format) (m : ℕ) (e : ℤ) → InFormat f m e → (j : ℕ) × (unitsOf f m e ≡ m * 2 ^ j) × (m * up e * 2 ^ low f ≡ m * 2 ^ j * down e)
+pub in-units : (f : Format) (m : ℕ) (e : ℤ) → InFormat f m e
+    → (j : ℕ) × (unitsOf f m e ≡ m * 2 ^ j) × (m * up e * 2 ^ low f ≡ m * 2 ^ j * down e)
 in-units f m e h =
     let p = place (low f) e (h .fine) in
     (p .0, ap (λ (x : ℕ). x / down e) (p .1 m) ∙ mul-div-cancel (m * 2 ^ p .0) (down-pos e), p .1 m)
 
-pub units-value : (f : Format) (s : Bool) (m : ℕ) (e : ℤ) → InFormat f m e → HasValue (fin s m e) s (unitsOf f m e) (2 ^ low f)
+pub units-value : (f : Format) (s : Bool) (m : ℕ) (e : ℤ) → InFormat f m e
+    → HasValue (fin s m e) s (unitsOf f m e) (2 ^ low f)
 units-value f s m e h =
     let p = in-units f m e h in (refl, p .2 ∙ ap (λ (x : ℕ). x * down e) (sym (p .1)))
 
@@ -93,11 +95,14 @@ units-below f m e h =
 
 -- ---- one value for each sign and number
 
-pub toBits-of : (f : Format) (s : Bool) (m : ℕ) (e : ℤ) → toBits f (fin s m e) ≡ cond s (top f) 0 + (size (unitsOf f m e) - prec f) * hid f + unitsOf f m e / 2 ^ (size (unitsOf f m e) - prec f)
+pub toBits-of : (f : Format) (s : Bool) (m : ℕ) (e : ℤ)
+    → toBits f (fin s m e) ≡ cond s (top f) 0 + (size (unitsOf f m e) - prec f) * hid f + unitsOf f m e / 2 ^
+    (size (unitsOf f m e) - prec f)
 unfolding toBits
 toBits-of f s m e = refl
 
-same-units : (f : Format) (m n : ℕ) (e d : ℤ) (a c : ℕ) → 0 < c → m * up e * c ≡ a * down e → n * up d * c ≡ a * down d → unitsOf f m e ≡ unitsOf f n d
+same-units : (f : Format) (m n : ℕ) (e d : ℤ) (a c : ℕ) → 0 < c → m * up e * c ≡ a * down e → n * up d * c ≡ a * down d
+    → unitsOf f m e ≡ unitsOf f n d
 same-units f m n e d a c C p q =
     div-same (m * up e * 2 ^ low f) (down e) (n * up d * 2 ^ low f) (down d) (down-pos e) (down-pos d)
     (eq-of-mul-eq-mul-right c C (m * up e * 2 ^ low f * down d) (n * up d * 2 ^ low f * down e)
@@ -107,13 +112,15 @@ same-units f m n e d a c C p q =
     cross x u v h =
         mul-right-comm (x * 2 ^ low f) v c ∙ ap (λ (z : ℕ). z * v) (mul-right-comm x (2 ^ low f) c ∙ ap (λ (z : ℕ). z * 2 ^ low f) h ∙ mul-right-comm a u (2 ^ low f))
 
-same-bits : (f : Format) (s : Bool) (m n : ℕ) (e d : ℤ) → unitsOf f m e ≡ unitsOf f n d → toBits f (fin s m e) ≡ toBits f (fin s n d)
+same-bits : (f : Format) (s : Bool) (m n : ℕ) (e d : ℤ) → unitsOf f m e ≡ unitsOf f n d
+    → toBits f (fin s m e) ≡ toBits f (fin s n d)
 same-bits f s m n e d h =
     toBits-of f s m e
     ∙ ap (λ (x : ℕ). cond s (top f) 0 + (size x - prec f) * hid f + x / 2 ^ (size x - prec f)) h
     ∙ sym (toBits-of f s n d)
 
-pub value-unique : (f : Format) (x y : Float) (s : Bool) (a c : ℕ) → T (fits f x) → T (fits f y) → 0 < c → HasValue x s a c → HasValue y s a c → x ≡ y
+pub value-unique : (f : Format) (x y : Float) (s : Bool) (a c : ℕ) → T (fits f x) → T (fits f y) → 0 < c
+    → HasValue x s a c → HasValue y s a c → x ≡ y
 value-unique f nan y s a c p q C v w = absurd v
 value-unique f (inf t) y s a c p q C v w = absurd v
 value-unique f (fin t m e) nan s a c p q C v w = absurd w
@@ -125,7 +132,8 @@ value-unique f (fin t m e) (fin u n d) s a c p q C v w =
 
 -- ---- a value of the format is rounded to itself
 
-pub round-self : (f : Format) (s : Bool) (m : ℕ) (e : ℤ) → T (fits f (fin s m e)) → round f s (m * up e) (down e) ≡ fin s m e
+pub round-self : (f : Format) (s : Bool) (m : ℕ) (e : ℤ) → T (fits f (fin s m e))
+    → round f s (m * up e) (down e) ≡ fin s m e
 round-self f s m e h =
     let k = in-format f s m e h in
     let p = in-units f m e k in

@@ -28,7 +28,8 @@ ceiling-is : (k a d : ℕ) → a ≤ k * d → k * d < a + d → ceiling a d ≡
 ceiling-is k a d h l = div-eq-of-lt-le d (omega arith) (rw add-mul (omega (arith, one-mul d)))
 
 -- ---- a float with no fraction is its own floor
-floored-is : (f : Format) (s : Bool) (m : ℕ) (e : ℤ) → floored f (fin s m e) ≡ round f s (cond s (ceiling (m * up e) (down e)) (m * up e / down e)) 1
+floored-is : (f : Format) (s : Bool) (m : ℕ) (e : ℤ)
+    → floored f (fin s m e) ≡ round f s (cond s (ceiling (m * up e) (down e)) (m * up e / down e)) 1
 unfolding floored
 floored-is f s m e = refl
 
@@ -36,7 +37,8 @@ whole-is : (s : Bool) (a d n : ℕ) → 0 < d → n * d ≡ a → cond s (ceilin
 whole-is true a d n D h = ceiling-is n a d (omega arith) (omega arith)
 whole-is false a d n D h = rw (← h) (mul-div-cancel n D)
 
-fixed : (f : Format) (s : Bool) (m : ℕ) (e : ℤ) (n : ℕ) → T (fits f (fin s m e)) → n * down e ≡ m * up e → floored f (fin s m e) ≡ fin s m e
+fixed : (f : Format) (s : Bool) (m : ℕ) (e : ℤ) (n : ℕ) → T (fits f (fin s m e)) → n * down e ≡ m * up e
+    → floored f (fin s m e) ≡ fin s m e
 fixed f s m e n t h =
     floored-is f s m e
     ∙ ap (λ (z : ℕ). round f s z 1) (whole-is s (m * up e) (down e) n (down-pos e) h)
@@ -57,7 +59,8 @@ no-fraction f s m (pos k) t h = (m * 2 ^ k, mul-one (m * 2 ^ k))
 no-fraction f s m (negsuc k) t h =
     absurd (omega (arith, in-format f s m (negsuc k) t .digits, mul-le-mul-left (2 ^ (prec f - 1)) (two-up k), doubled f, mul-one m))
 
-large : (f : Format) (s : Bool) (m : ℕ) (e : ℤ) → T (fits f (fin s m e)) → 2 ^ (prec f - 1) * down e ≤ m * up e → floored f (fin s m e) ≡ fin s m e
+large : (f : Format) (s : Bool) (m : ℕ) (e : ℤ) → T (fits f (fin s m e)) → 2 ^ (prec f - 1) * down e ≤ m * up e
+    → floored f (fin s m e) ≡ fin s m e
 large f s m e t h = let w = no-fraction f s m e t h in fixed f s m e (w .0) t (w .1)
 
 -- ---- the two tests that lead to an answer of x itself
@@ -136,7 +139,8 @@ not-above false a b h l = omega (arith, ltb-false a b l)
 not-above true a b h l = omega (arith, ltb-false 0 (a + b) l)
 
 -- −q minus one
-minus-one : (f : Format) (q : ℕ) → q ≤ 2 ^ prec f → sub f (ofInt f (negℤ (pos q))) (fin false 1 (pos 0)) ≡ round f true (q + 1) 1
+minus-one : (f : Format) (q : ℕ) → q ≤ 2 ^ prec f
+    → sub f (ofInt f (negℤ (pos q))) (fin false 1 (pos 0)) ≡ round f true (q + 1) 1
 unfolding sub ofInt
 minus-one binary32 zero h = unfold round in refl
 minus-one binary64 zero h = unfold round in refl
@@ -148,12 +152,14 @@ module _ (f : Format) (m : ℕ) (e : ℤ) (q : ℕ) (is : m * up e / down e ≡ 
   at-most : q * down e ≤ m * up e * 1
   at-most = rw (← is) (omega (arith, div-mul-le-self (m * up e) (down e)))
 
-  lt-is : (s : Bool) → lt (ofInt f (signed s q)) (fin s m e) ≡ below (whole f s q fine .sign) (q * down e) s (m * up e * 1)
+  lt-is : (s : Bool)
+      → lt (ofInt f (signed s q)) (fin s m e) ≡ below (whole f s q fine .sign) (q * down e) s (m * up e * 1)
   lt-is s =
       let w = whole f s q fine in
       lt-at (w .sign) s q 1 (m * up e) (down e) (lit≤ tt) (down-pos e) (ofInt f (signed s q)) (fin s m e) (w .value) (refl, refl)
 
-  eq-is : (s : Bool) → eq (ofInt f (signed s q)) (fin s m e) ≡ level (whole f s q fine .sign) (q * down e) s (m * up e * 1)
+  eq-is : (s : Bool)
+      → eq (ofInt f (signed s q)) (fin s m e) ≡ level (whole f s q fine .sign) (q * down e) s (m * up e * 1)
   eq-is s =
       let w = whole f s q fine in
       eq-at (w .sign) s q 1 (m * up e) (down e) (lit≤ tt) (down-pos e) (ofInt f (signed s q)) (fin s m e) (w .value) (refl, refl)
@@ -215,7 +221,8 @@ castable f (fin true m e) h =
 castable f (fin false m e) h =
     (rw (lt-ltb 0 (2 ^ 63 * down e + m * up e * 1) (omega (arith, down-pos e))) tt, lt→ltb (m * up e * 1) (2 ^ 63 * down e) (wider f m e h))
 
-cut-is : (f : Format) (s : Bool) (m : ℕ) (e : ℤ) → m * up e / down e < 2 ^ (prec f - 1) → toSigned 63 (fin s m e) ≡ signed s (m * up e / down e)
+cut-is : (f : Format) (s : Bool) (m : ℕ) (e : ℤ) → m * up e / down e < 2 ^ (prec f - 1)
+    → toSigned 63 (fin s m e) ≡ signed s (m * up e / down e)
 unfolding toSigned
 cut-is f true m e h = let n : min (m * up e / down e) (2 ^ 63) ≡ m * up e / down e = omega (arith, in-63 f) in rw n
 cut-is f false m e h = let n : min (m * up e / down e) (2 ^ 63 - 1) ≡ m * up e / down e = omega (arith, in-63 f) in rw n
@@ -251,10 +258,12 @@ part-le true a d p D h = ceiling-least a d p D (omega arith)
 part-le false a d p D h = le-of-lt (div-lt-iff-lt-mul D .1 h)
 
 -- the floor is that whole number exactly, with the sign of x
-pub floor-value : (f : Format) (s : Bool) (m : ℕ) (e : ℤ) → T (fits f (fin s m e)) → HasValue (floored f (fin s m e)) s (part s (m * up e) (down e)) 1
+pub floor-value : (f : Format) (s : Bool) (m : ℕ) (e : ℤ) → T (fits f (fin s m e))
+    → HasValue (floored f (fin s m e)) s (part s (m * up e) (down e)) 1
 floor-value f s m e t = go (ltb (m * up e) (2 ^ (prec f - 1) * down e)) refl
   where
-    go : (b : Bool) → ltb (m * up e) (2 ^ (prec f - 1) * down e) ≡ b → HasValue (floored f (fin s m e)) s (part s (m * up e) (down e)) 1
+    go : (b : Bool) → ltb (m * up e) (2 ^ (prec f - 1) * down e) ≡ b
+        → HasValue (floored f (fin s m e)) s (part s (m * up e) (down e)) 1
     go true h =
         let l : part s (m * up e) (down e) ≤ 2 ^ (prec f - 1) = part-le s (m * up e) (down e) (2 ^ (prec f - 1)) (down-pos e) (ltb-true _ _ h) in
         rw (floored-is f s m e) (round-whole f s (part s (m * up e) (down e)) (omega (arith, doubled f)))
@@ -262,7 +271,8 @@ floor-value f s m e t = go (ltb (m * up e) (2 ^ (prec f - 1) * down e)) refl
         let w = no-fraction f s m e t (ltb-false _ _ h) in
         rw (fixed f s m e (w .0) t (w .1), whole-is s (m * up e) (down e) (w .0) (down-pos e) (w .1)) (refl, mul-one (m * up e) ∙ sym (w .1))
 
-part-under : (s : Bool) (a d : ℕ) → 0 < d → gain s (part s a d * d) + loss s (a * 1) ≤ gain s (a * 1) + loss s (part s a d * d)
+part-under : (s : Bool) (a d : ℕ) → 0 < d
+    → gain s (part s a d * d) + loss s (a * 1) ≤ gain s (a * 1) + loss s (part s a d * d)
 part-under true a d D = omega (arith, ceiling-above a d D)
 part-under false a d D = omega (arith, div-mul-le-self a d)
 
@@ -281,7 +291,8 @@ pub record Floor (x r : Float) : Type 0 where
   pub not-above : T (le r x)
   pub greatest : (y : Float) (t : Bool) (n : ℕ) → HasValue y t n 1 → T (le y x) → T (le y r)
 
-pub floor-is : (f : Format) (s : Bool) (m : ℕ) (e : ℤ) → T (fits f (fin s m e)) → Floor (fin s m e) (floored f (fin s m e))
+pub floor-is : (f : Format) (s : Bool) (m : ℕ) (e : ℤ) → T (fits f (fin s m e))
+    → Floor (fin s m e) (floored f (fin s m e))
 floor-is f s m e t = record {
   sign = s;
   size = part s (m * up e) (down e);

@@ -71,7 +71,8 @@ module _ (f : Format) where
   left-is : (s : Bool) (n : ℕ) (d : ℤ) → add f plusZero (fin s n d) ≡ sum f false 0 s (n * up d) (down d)
   left-is s n d = add-is f false 0 (pos 0) s n d ∙ rw (zero-mul, mul-one, one-mul)
 
-  right-is : (s : Bool) (m : ℕ) (e : ℤ) (t : Bool) → add f (fin s m e) (fin t 0 (pos 0)) ≡ sum f s (m * up e) t 0 (down e)
+  right-is : (s : Bool) (m : ℕ) (e : ℤ) (t : Bool)
+      → add f (fin s m e) (fin t 0 (pos 0)) ≡ sum f s (m * up e) t 0 (down e)
   right-is s m e t = add-is f s m e t 0 (pos 0) ∙ rw (mul-one, zero-mul, mul-one)
 
   plus-zero-add-fin : (s : Bool) (n : ℕ) (d : ℤ) → T (fits f (fin s n d))
@@ -80,14 +81,16 @@ module _ (f : Format) where
   plus-zero-add-fin false zero d t = inl (left-is false 0 d ∙ rw zero-mul (sum-zeros f false false (down d) (down-pos d)) ∙ sym (one-zero f false d t))
   plus-zero-add-fin true zero d t = inr (one-zero f true d t, left-is true 0 d ∙ rw zero-mul (sum-zeros f false true (down d) (down-pos d)))
 
-  pub plus-zero-add : (x : Float) → T (fits f x) → (add f plusZero x ≡ x) ⊎ ((x ≡ minusZero) × (add f plusZero x ≡ plusZero))
+  pub plus-zero-add : (x : Float) → T (fits f x)
+      → (add f plusZero x ≡ x) ⊎ ((x ≡ minusZero) × (add f plusZero x ≡ plusZero))
   unfolding add
   plus-zero-add nan t = inl refl
   plus-zero-add (inf s) t = inl refl
   plus-zero-add (fin s n d) t = plus-zero-add-fin s n d t
 
   -- a number that is no −0 stands
-  pub add-plus-zero : (s : Bool) (m : ℕ) (e : ℤ) (t : Bool) → T (fits f (fin s m e)) → (fin s m e ≡ minusZero → ⊥) → add f (fin s m e) (fin t 0 (pos 0)) ≡ fin s m e
+  pub add-plus-zero : (s : Bool) (m : ℕ) (e : ℤ) (t : Bool) → T (fits f (fin s m e)) → (fin s m e ≡ minusZero → ⊥)
+      → add f (fin s m e) (fin t 0 (pos 0)) ≡ fin s m e
   add-plus-zero s (suc m) e t h k = right-is s (suc m) e t ∙ plus-zero-sum f s t (suc m * up e) (down e) (size-pos m e) ∙ round-self f s (suc m) e h
   add-plus-zero false zero e t h k = right-is false 0 e t ∙ rw zero-mul (sum-zeros f false t (down e) (down-pos e)) ∙ sym (one-zero f false e h)
   add-plus-zero true zero e t h k = absurd (k (one-zero f true e h))
@@ -119,7 +122,8 @@ module _ (f : Format) where
   sub-self s m e = add-is f s m e (not s) m e ∙ sum-self s (m * up e * down e) (down e * down e) (mul-pos (down-pos e) (down-pos e))
 
   -- and minus an equal one
-  sum-level : (s t : Bool) (a b c : ℕ) → 0 < c → T (level s a t b) → (r : Bool) × (sum f t b (not s) a c ≡ fin r 0 (pos 0))
+  sum-level : (s t : Bool) (a b c : ℕ) → 0 < c → T (level s a t b)
+      → (r : Bool) × (sum f t b (not s) a c ≡ fin r 0 (pos 0))
   sum-level s t a b c C h = go s t (and-r (eqb a b) (Bool·beq s t || eqb a 0) h)
     where
       same : a ≡ b
@@ -141,7 +145,8 @@ module _ (f : Format) where
       sum-level s t (m * up e * down d) (n * up d * down e) (down d * down e) (mul-pos (down-pos d) (down-pos e)) h
 
 -- 0, converted, times a positive number
-pub zero-mul-positive : (x : Float) → T (lt plusZero x) → T (finite x) → mul binary64 (ofInt binary64 (pos 0)) x ≡ plusZero
+pub zero-mul-positive : (x : Float) → T (lt plusZero x) → T (finite x)
+    → mul binary64 (ofInt binary64 (pos 0)) x ≡ plusZero
 unfolding ofInt lt
 zero-mul-positive nan p q = absurd p
 zero-mul-positive (inf s) p q = absurd q
@@ -178,7 +183,8 @@ minus-either-zero f (fin s m e) t h = add-plus-zero f s m e true t none ∙ sym 
     none : fin s m e ≡ minusZero → ⊥
     none k = subst (λ (x : Float). T (lt x minusZero)) k h
 
-pub sub-plus-zero-add : (f : Format) (x y : Float) → T (fits f x) → T (fits f y) → T (lt x y) → sub f x (add f plusZero y) ≡ sub f x y
+pub sub-plus-zero-add : (f : Format) (x y : Float) → T (fits f x) → T (fits f y) → T (lt x y)
+    → sub f x (add f plusZero y) ≡ sub f x y
 sub-plus-zero-add f x y t u h = elim (plus-zero-add f y u) [
   | inl k ↦ rw k
   | inr k ↦ rw (k .1, k .0) (minus-either-zero f x t (rw (k .0) at h))

@@ -13,10 +13,10 @@ abbrev pub f64Zero : Float
 f64Zero = ofBits binary64 0
 
 abbrev pub f64One : Float
-f64One = ofBits binary64 4607182418800017408
+f64One = ofBits binary64 0x3FF0000000000000
 
 abbrev pub f64Max : Float
-f64Max = ofBits binary64 9218868437227405311
+f64Max = ofBits binary64 0x7FEFFFFFFFFFFFFF
 
 abbrev pub f64Min : Float
 f64Min = neg f64Max

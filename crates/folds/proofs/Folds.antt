@@ -30,7 +30,8 @@ folding-step {A} {B} {f} {b₀} {l} {i} {b} d c w h e = record {
   is = rw (add-one, e) (ap (folded f b) (sym (drop-cons l i d h)) ∙ w .is);
 }
 
-pub folding-done : {A B : Type 0} {f : B → A → B} {b₀ : B} {l : List A} {i : ℕ} {b : B} → Folding f b₀ l i b → length l ≤ i → b ≡ folded f b₀ l
+pub folding-done : {A B : Type 0} {f : B → A → B} {b₀ : B} {l : List A} {i : ℕ} {b : B} → Folding f b₀ l i b
+    → length l ≤ i → b ≡ folded f b₀ l
 unfolding folded
 folding-done {A} {B} {f} {b₀} {l} {i} {b} w h =
     let g = w .high in
@@ -60,13 +61,15 @@ counting-step {A} {p} {l} {i} {n} d b w h e =
     record { high = omega arith; few = omega arith; is = omega arith }
 
 -- the sum of a turn fits
-pub counting-fits : {A : Type 0} {p : A → Bool} {l : List A} {i n : ℕ} (b : Bool) → Counting p l i n → i < length l → length l < 2 ^ 64 → n + boolByte b < 2 ^ 64
+pub counting-fits : {A : Type 0} {p : A → Bool} {l : List A} {i n : ℕ} (b : Bool) → Counting p l i n → i < length l
+    → length l < 2 ^ 64 → n + boolByte b < 2 ^ 64
 counting-fits {n = n} b w h k =
     let few = w .few in
     let one = byte-most b in
     omega arith
 
-pub counting-done : {A : Type 0} {p : A → Bool} {l : List A} {i n : ℕ} → Counting p l i n → length l ≤ i → n ≡ howMany p l
+pub counting-done : {A : Type 0} {p : A → Bool} {l : List A} {i n : ℕ} → Counting p l i n → length l ≤ i
+    → n ≡ howMany p l
 unfolding howMany
 counting-done {A} {p} {l} {i} {n} w h =
     let high = w .high in
@@ -82,7 +85,8 @@ module _ {A : Type 0} (p q : A → Bool) (no : (a : A) → T (p a) → T (q a) �
   counts-le [] = zero-le
   counts-le (a ∷ l) = go (p a) (q a) (howMany p l) (howMany q l) (no a) (counts-le l)
     where
-      go : (a b : Bool) (m n : ℕ) → (T a → T b → ⊥) → m + n ≤ length l → (cond a 1 0 + m) + (cond b 1 0 + n) ≤ suc (length l)
+      go : (a b : Bool) (m n : ℕ) → (T a → T b → ⊥) → m + n ≤ length l
+          → (cond a 1 0 + m) + (cond b 1 0 + n) ≤ suc (length l)
       go true true m n never h = absurd (never tt tt)
       go true false m n never h = omega arith
       go false true m n never h = omega arith

@@ -9,7 +9,8 @@ use native.Mathlib.Omega.{arith}
 use lib.ListN.{length, take, drop, getD, length-append, take-append-drop}
 use lib.Seq.{slice, slice-cons, drop-drop, drop-append-le, take-suc, take-take, length-take-le, getD-drop, getD-take, take-at, getD-at}
 
-pub slices : {A : Type 0} (lo mid end : ℕ) (s : List A) → lo ≤ mid → mid ≤ end → end ≤ length s → slice lo mid s ++ slice mid end s ≡ slice lo end s
+pub slices : {A : Type 0} (lo mid end : ℕ) (s : List A) → lo ≤ mid → mid ≤ end → end ≤ length s
+    → slice lo mid s ++ slice mid end s ≡ slice lo end s
 slices lo mid end s h k l =
     let n = length-take-le mid s (omega arith) in
     rw (← take-take mid end s k, ← drop-append-le lo (take mid (take end s)) (drop mid (take end s)) (rw (take-take mid end s k) (omega arith)), take-append-drop)
@@ -32,7 +33,8 @@ module _ {A : Type 0} (d : A) where
   uncons T S v k e =
       (sym (ap (λ (l : List A). getD l 0 d) e) ∙ getD-drop k T 0 d ∙ rw add-zero, sym (drop-drop 1 k T) ∙ ap (drop 1) e)
 
-  pub unsnoc : (T S : List A) (v : A) (c : ℕ) → c < length T → take (c + 1) T ≡ S ++ (v ∷ []) → (v ≡ getD T c d) × (take c T ≡ S)
+  pub unsnoc : (T S : List A) (v : A) (c : ℕ) → c < length T → take (c + 1) T ≡ S ++ (v ∷ [])
+      → (v ≡ getD T c d) × (take c T ≡ S)
   unsnoc T S v c h e =
       let n : length S ≡ c = omega (arith, length-take-le (c + 1) T (omega arith), simp length-append at (ap length e)) in (
         sym (getD-at S v [] d c n) ∙ sym (ap (λ (l : List A). getD l c d) e) ∙ getD-take (c + 1) T c d (omega arith),

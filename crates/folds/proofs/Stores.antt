@@ -23,12 +23,14 @@ module _ {A : Type 0} (f : ℕ → A) where
       steps-past d i (suc a) k (store a column) (omega arith) ∙ getD-set-other column a i (f a) d (λ (e : i ≡ a). omega arith)
 
   -- places past its end keep their entries
-  pub stored-past : (d : A) (i a b : ℕ) (column : List A) → a ≤ i → b ≤ i → getD (forRange store a b column) i d ≡ getD column i d
+  pub stored-past : (d : A) (i a b : ℕ) (column : List A) → a ≤ i → b ≤ i
+      → getD (forRange store a b column) i d ≡ getD column i d
   stored-past d i a b column l h = steps-past d i a (b - a) column (omega arith)
 
   -- a column that is written from the front with g's values, block by block: f's are g's in this block
   module _ {g : ℕ → A} {d : A} {n : ℕ} where
-    steps-block : (k a : ℕ) (column : List A) → Writing g d n column a → a + k ≤ n → ((i : ℕ) → a ≤ i → i < a + k → f i ≡ g i)
+    steps-block : (k a : ℕ) (column : List A) → Writing g d n column a → a + k ≤ n
+        → ((i : ℕ) → a ≤ i → i < a + k → f i ≡ g i)
         → Writing g d n (steps store a k column) (a + k)
     unfolding steps
     steps-block zero a column w h e =
@@ -41,7 +43,8 @@ module _ {A : Type 0} (f : ℕ → A) where
         subst (Writing g d n (steps store (suc a) k (store a column))) z
         (steps-block k (suc a) (store a column) more (omega arith) (λ i l u. e i (omega arith) (omega arith)))
 
-    pub stored-block : {a : ℕ} (b : ℕ) {column column′ : List A} → Writing g d n column a → a ≤ b → b ≤ n → ((i : ℕ) → a ≤ i → i < b → f i ≡ g i)
+    pub stored-block : {a : ℕ} (b : ℕ) {column column′ : List A} → Writing g d n column a → a ≤ b → b ≤ n
+        → ((i : ℕ) → a ≤ i → i < b → f i ≡ g i)
         → column′ ≡ forRange store a b column → Writing g d n column′ b
     stored-block {a} b {column} w l h e c =
         let z : a + (b - a) ≡ b = omega arith in

@@ -48,13 +48,15 @@ module _ {S : Type 0} (f : ℕ → S → S) where
 pub start : {S : Type 0} {f : ℕ → S → S} {a n : ℕ} {s : S} → a ≤ n → Walk f a a n s s
 start {a = a} h = record { low = le-refl a; high = h; is = refl }
 
-pub step : {S : Type 0} {f : ℕ → S → S} {a j n : ℕ} {s₀ s : S} → Walk f a j n s₀ s → j < n → Walk f a (j + 1) n s₀ (f j s)
+pub step : {S : Type 0} {f : ℕ → S → S} {a j n : ℕ} {s₀ s : S} → Walk f a j n s₀ s → j < n
+    → Walk f a (j + 1) n s₀ (f j s)
 step {f = f} {j = j} {n = n} {s = s} w h =
     let l = w .low in
     record { low = omega arith; high = omega arith; is = sym (for-range-step f j n s h) ∙ w .is }
 
 -- a turn whose new state is f's by an equation
-pub step-by : {S : Type 0} {f : ℕ → S → S} {a j n : ℕ} {s₀ s t : S} → Walk f a j n s₀ s → j < n → t ≡ f j s → Walk f a (j + 1) n s₀ t
+pub step-by : {S : Type 0} {f : ℕ → S → S} {a j n : ℕ} {s₀ s t : S} → Walk f a j n s₀ s → j < n → t ≡ f j s
+    → Walk f a (j + 1) n s₀ t
 step-by {S} {f} {a} {j} {n} {s₀} w h e = subst (λ (x : S). Walk f a (j + 1) n s₀ x) (sym e) (step w h)
 
 pub done : {S : Type 0} {f : ℕ → S → S} {a j n : ℕ} {s₀ s : S} → Walk f a j n s₀ s → n ≤ j → s ≡ forRange f a n s₀
@@ -77,12 +79,14 @@ for-range-down-none : {S : Type 0} (f : ℕ → S → S) (s : S) → forRangeDow
 unfolding forRangeDown
 for-range-down-none f s = refl
 
-pub walk-down-step : {S : Type 0} {f : ℕ → S → S} {i n : ℕ} {s₀ s : S} (j : ℕ) → WalkDown f i n s₀ s → i ≡ j + 1 → WalkDown f j n s₀ (f j s)
+pub walk-down-step : {S : Type 0} {f : ℕ → S → S} {i n : ℕ} {s₀ s : S} (j : ℕ) → WalkDown f i n s₀ s → i ≡ j + 1
+    → WalkDown f j n s₀ (f j s)
 walk-down-step {f = f} {i = i} {s = s} j w e =
     let l = w .high in
     record { high = omega arith; is = sym (for-range-down-more f j s) ∙ ap (λ (x : ℕ). forRangeDown f x s) (sym (e ∙ add-one j)) ∙ w .is }
 
-pub walk-down-done : {S : Type 0} {f : ℕ → S → S} {i n : ℕ} {s₀ s : S} → WalkDown f i n s₀ s → i ≡ 0 → s ≡ forRangeDown f n s₀
+pub walk-down-done : {S : Type 0} {f : ℕ → S → S} {i n : ℕ} {s₀ s : S} → WalkDown f i n s₀ s → i ≡ 0
+    → s ≡ forRangeDown f n s₀
 walk-down-done {f = f} {s = s} w e = sym (for-range-down-none f s) ∙ ap (λ (x : ℕ). forRangeDown f x s) (sym e) ∙ w .is
 
 -- ---- a search
@@ -204,14 +208,16 @@ module _ {S : Type 0} (f : ℕ → S → S) where
       ap (λ (i : ℕ). steps f i (c - b) (steps f a (b - a) s)) e ∙ steps-join a (b - a) (c - b) s ∙ ap (λ (k : ℕ). steps f a k s) e′
 
 module _ {S : Type 0} {f g : ℕ → S → S} where
-  steps-same : (a k : ℕ) (s : S) → ((i : ℕ) → a ≤ i → i < a + k → (s : S) → f i s ≡ g i s) → steps f a k s ≡ steps g a k s
+  steps-same : (a k : ℕ) (s : S) → ((i : ℕ) → a ≤ i → i < a + k → (s : S) → f i s ≡ g i s)
+      → steps f a k s ≡ steps g a k s
   unfolding steps
   steps-same a zero s e = refl
   steps-same a (suc k) s e =
       ap (steps f (suc a) k) (e a (le-refl a) (omega arith) s)
       ∙ steps-same (suc a) k (g a s) (λ i l u. e i (omega arith) (omega arith))
 
-  pub for-range-same : (a b : ℕ) (s : S) → ((i : ℕ) → a ≤ i → i < b → (s : S) → f i s ≡ g i s) → forRange f a b s ≡ forRange g a b s
+  pub for-range-same : (a b : ℕ) (s : S) → ((i : ℕ) → a ≤ i → i < b → (s : S) → f i s ≡ g i s)
+      → forRange f a b s ≡ forRange g a b s
   unfolding steps
   for-range-same a b s e = go (lt-or-ge b a)
     where

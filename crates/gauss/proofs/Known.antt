@@ -24,7 +24,8 @@ only P p i h = subst P (zero-is i h) p
     zero-is i h = omega arith
 
 -- a system of size 1 is its one entry and its right side
-alone : (left : Matrix) (right : Vector) (x y : Float) → entry left 0 0 ≡ x → getD right 0 nan ≡ y → solution left right 1 ≡ solution ((x ∷ []) ∷ []) (y ∷ []) 1
+alone : (left : Matrix) (right : Vector) (x y : Float) → entry left 0 0 ≡ x → getD right 0 nan ≡ y
+    → solution left right 1 ≡ solution ((x ∷ []) ∷ []) (y ∷ []) 1
 alone left right x y l r =
     unread left ((x ∷ []) ∷ []) right (y ∷ []) 1
     (λ (i j : ℕ) (h : i < 1) (g : j < 1).
@@ -37,7 +38,8 @@ unfolding solution firstAnswer attempt joined values eliminated epsilon diagonal
 computed = (refl, λ y. refl)
 
 -- "system [−1E-8], right side 5: answer 5, since the entry becomes 0"
-pub minus-small : (left : Matrix) (right : Vector) → entry left 0 0 ≡ neg small → getD right 0 nan ≡ five → solution left right 1 ≡ solvedWith (five ∷ replicate 19 f64Zero)
+pub minus-small : (left : Matrix) (right : Vector) → entry left 0 0 ≡ neg small → getD right 0 nan ≡ five
+    → solution left right 1 ≡ solvedWith (five ∷ replicate 19 f64Zero)
 minus-small left right l r = alone left right (neg small) five l r ∙ computed .0
 
 -- "system [NaN]: 7", whatever the right side
@@ -45,7 +47,8 @@ pub not-a-number : (left : Matrix) (right : Vector) → entry left 0 0 ≡ nan �
 not-a-number left right l = alone left right nan (getD right 0 nan) l refl ∙ computed .1 (getD right 0 nan)
 
 -- "Size 0 or 21: 3."
-pub sizes-refused : (left : Matrix) (right : Vector) → (solution left right 0 ≡ blank OutOfRange) × (solution left right 21 ≡ blank OutOfRange)
+pub sizes-refused : (left : Matrix) (right : Vector)
+    → (solution left right 0 ≡ blank OutOfRange) × (solution left right 21 ≡ blank OutOfRange)
 unfolding solution
 sizes-refused left right = (refl, refl)
 

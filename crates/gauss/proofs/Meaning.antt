@@ -69,8 +69,10 @@ sound left right size = go (sizeAsked size)
 
 -- ---- "Entries past the size are not read"
 
-pub unread : (left left′ : Matrix) (right right′ : Vector) (size : ℕ) → ((i j : ℕ) → i < size → j < size → entry left i j ≡ entry left′ i j)
-    → ((i : ℕ) → i < size → getD right i nan ≡ getD right′ i nan) → solution left right size ≡ solution left′ right′ size
+pub unread : (left left′ : Matrix) (right right′ : Vector) (size : ℕ)
+    → ((i j : ℕ) → i < size → j < size → entry left i j ≡ entry left′ i j)
+    → ((i : ℕ) → i < size → getD right i nan ≡ getD right′ i nan)
+    → solution left right size ≡ solution left′ right′ size
 unfolding solution joined
 unread left left′ right right′ size l r = ap (λ (m : Matrix). answered (sizeAsked size) (firstAnswer size m) blank) same
   where
@@ -85,6 +87,7 @@ unread left left′ right right′ size l r = ap (λ (m : Matrix). answered (siz
 
 -- ---- "If nothing in the column from row h down is ≥ f64::MIN (only NaN or −infinity), row 0 is picked."
 
-pub row-zero : (size h k : ℕ) (m : Matrix) → ((i : ℕ) → h ≤ i → i < size → le f64Min (entry m i k) ≡ false) → pivotRow size h k m ≡ 0
+pub row-zero : (size h k : ℕ) (m : Matrix) → ((i : ℕ) → h ≤ i → i < size → le f64Min (entry m i k) ≡ false)
+    → pivotRow size h k m ≡ 0
 unfolding pivotRow
 row-zero size h k m none = ap (λ (p : Pivot). p .row) (for-range-unchanged (larger m k) (record { row = 0; value = f64Min }) h size (λ i l g. rw (none i l g)))

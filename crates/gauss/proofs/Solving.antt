@@ -27,7 +27,8 @@ isAnswer (Refused refusal) = false
 -- ---- solve_inner: the stages, and the two returns
 
 module _ (size : ℕ) (eps : Float) (m : Matrix) where
-  pub stages : {m₁ m₂ m₃ m₄ : Matrix} → m₁ ≡ diagonalFilled size eps m → m₂ ≡ echeloned size m₁ → m₃ ≡ reduced size m₂ → m₄ ≡ backfilled size m₃
+  pub stages : {m₁ m₂ m₃ m₄ : Matrix} → m₁ ≡ diagonalFilled size eps m → m₂ ≡ echeloned size m₁ → m₃ ≡ reduced size m₂
+      → m₄ ≡ backfilled size m₃
       → m₄ ≡ eliminated size eps m
   unfolding eliminated
   stages f e r b = b ∙ ap (backfilled size) (r ∙ ap (reduced size) (e ∙ ap (echeloned size) f))
@@ -37,12 +38,14 @@ module _ (size : ℕ) (eps : Float) (m : Matrix) where
   unfolding attempt
   attempt-is b e = ap (λ (b : Bool). cond b (solvedWith (values size (eliminated size eps m))) (blank Unsolved)) e
 
-  pub attempt-answers : {t : Matrix} {b : Bool} {v : Vector} → t ≡ eliminated size eps m → b ≡ leftSolved size t → b ≡ true → v ≡ values size t
+  pub attempt-answers : {t : Matrix} {b : Bool} {v : Vector} → t ≡ eliminated size eps m → b ≡ leftSolved size t
+      → b ≡ true → v ≡ values size t
       → solvedWith v ≡ attempt size eps m
   attempt-answers d s e v =
       ap solvedWith (v ∙ ap (values size) d) ∙ sym (attempt-is true (ap (leftSolved size) (sym d) ∙ sym s ∙ e))
 
-  pub attempt-refuses : {t : Matrix} {b : Bool} {r : Solution} → t ≡ eliminated size eps m → b ≡ leftSolved size t → b ≡ false → r ≡ blank Unsolved
+  pub attempt-refuses : {t : Matrix} {b : Bool} {r : Solution} → t ≡ eliminated size eps m → b ≡ leftSolved size t
+      → b ≡ false → r ≡ blank Unsolved
       → r ≡ attempt size eps m
   attempt-refuses d s e r = r ∙ sym (attempt-is false (ap (leftSolved size) (sym d) ∙ sym s ∙ e))
 
@@ -51,7 +54,8 @@ module _ (size : ℕ) (eps : Float) (m : Matrix) where
   unfolding attempt isAnswer
   solved-is e = go (leftSolved size (eliminated size eps m)) ∙ ap (λ (r : Solution). isAnswer (r .answer)) (sym e)
     where
-      go : (b : Bool) → b ≡ isAnswer (cond b (solvedWith (values size (eliminated size eps m))) (blank Unsolved) .answer)
+      go : (b : Bool)
+          → b ≡ isAnswer (cond b (solvedWith (values size (eliminated size eps m))) (blank Unsolved) .answer)
       go true = refl
       go false = refl
 
@@ -75,7 +79,8 @@ module _ {size : ℕ} {m : Matrix} {eps : Float} (w : Trying size m eps) where
   now-tried : le eps f64One ≡ true → w .n < tries
   now-tried t = tried (w .n) (w .is) (w .finding .high) t
 
-  pub trying-step : {r : Solution} {refusal : Refusal} → le eps f64One ≡ true → r ≡ attempt size eps m → r .answer ≡ Refused refusal
+  pub trying-step : {r : Solution} {refusal : Refusal} → le eps f64One ≡ true → r ≡ attempt size eps m
+      → r .answer ≡ Refused refusal
       → Trying size m (mul binary64 eps ten)
   unfolding epsilon isAnswer
   trying-step t e a =
@@ -88,14 +93,16 @@ module _ {size : ℕ} {m : Matrix} {eps : Float} (w : Trying size m eps) where
   pub trying-less : le eps f64One ≡ true → triesLeft (mul binary64 eps ten) < triesLeft eps
   trying-less t = falls (w .n) (w .is) (now-tried t)
 
-  first-is : w .n ≡ findInRange (solves size m) 0 tries → (b : Bool) → ltb (w .n) tries ≡ b → firstAnswer size m ≡ cond b (attempt size eps m) (blank Unsolved)
+  first-is : w .n ≡ findInRange (solves size m) 0 tries → (b : Bool) → ltb (w .n) tries ≡ b
+      → firstAnswer size m ≡ cond b (attempt size eps m) (blank Unsolved)
   unfolding firstAnswer
   first-is f b t =
       ap (λ (k : ℕ). cond (ltb k tries) (attempt size (epsilon k) m) (blank Unsolved)) (sym f)
       ∙ ap (λ (x : Float). cond (ltb (w .n) tries) (attempt size x m) (blank Unsolved)) (sym (w .is))
       ∙ ap (λ (b : Bool). cond b (attempt size eps m) (blank Unsolved)) t
 
-  pub trying-found : {r : Solution} → le eps f64One ≡ true → r ≡ attempt size eps m → r .answer ≡ Answer → r ≡ firstAnswer size m
+  pub trying-found : {r : Solution} → le eps f64One ≡ true → r ≡ attempt size eps m → r .answer ≡ Answer
+      → r ≡ firstAnswer size m
   unfolding isAnswer
   trying-found t e a =
       let h = now-tried t in
@@ -109,7 +116,8 @@ module _ {size : ℕ} {m : Matrix} {eps : Float} (w : Trying size m eps) where
 -- ---- the question on the size
 
 module _ (left : Matrix) (right : Vector) (size : ℕ) where
-  pub in-range : {r : Solution} {m : Matrix} → (size ≡ 0 → ⊥) → size ≤ 20 → m ≡ joined left right size → r ≡ firstAnswer size m → r ≡ solution left right size
+  pub in-range : {r : Solution} {m : Matrix} → (size ≡ 0 → ⊥) → size ≤ 20 → m ≡ joined left right size
+      → r ≡ firstAnswer size m → r ≡ solution left right size
   unfolding solution
   in-range p h j e =
       let low : 1 ≤ size = omega arith in

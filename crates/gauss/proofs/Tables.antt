@@ -25,5 +25,6 @@ module _ (size k h : ℕ) (m : Matrix) {i : ℕ} (pivot : i ≡ pivotRow size h 
   pub skipped : eq (entry m i k) f64Zero ≡ true → (h, m) ≡ echelonColumn size k (h, m)
   skipped = column-is true
 
-  pub pivoted : {m₁ m₂ : Matrix} → eq (entry m i k) f64Zero ≡ false → m₁ ≡ swapped h i m → m₂ ≡ clearedBelow size h k m₁ → (h + 1, m₂) ≡ echelonColumn size k (h, m)
+  pub pivoted : {m₁ m₂ : Matrix} → eq (entry m i k) f64Zero ≡ false → m₁ ≡ swapped h i m → m₂ ≡ clearedBelow size h k m₁
+      → (h + 1, m₂) ≡ echelonColumn size k (h, m)
   pivoted e s c = ap (λ (t : Matrix). (h + 1, t)) (c ∙ ap (clearedBelow size h k) s) ∙ column-is false e

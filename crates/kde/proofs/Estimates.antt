@@ -44,11 +44,13 @@ secondBin bins = getD bins (min (lastOf bins) 1) nan
 
 module _ (e : Estimator) (bins : List Float) (score : Float) where
   -- from the last bin's place on, the last bin twice
-  pub last-used : lastOf bins ≤ stepsUp e score → posteriorError e bins score ≡ interpolated (lastBin bins) (lastBin bins) (factor e score (lastOf bins))
+  pub last-used : lastOf bins ≤ stepsUp e score
+      → posteriorError e bins score ≡ interpolated (lastBin bins) (lastBin bins) (factor e score (lastOf bins))
   last-used h = sym (posterior-by e bins score (lastOf bins) (lastOf bins) (omega arith) (omega arith))
 
   -- below the second bin's place, the first two
-  pub first-used : stepsUp e score ≡ 0 → posteriorError e bins score ≡ interpolated (firstBin bins) (secondBin bins) (factor e score 0)
+  pub first-used : stepsUp e score ≡ 0
+      → posteriorError e bins score ≡ interpolated (firstBin bins) (secondBin bins) (factor e score 0)
   first-used h = sym (posterior-by e bins score 0 (min (lastOf bins) 1) (omega arith) refl)
 
 -- ---- interpolation without a number
@@ -67,14 +69,16 @@ same-nan (fin s m e) (inf t) h = rw sub-self (add-nan binary64 (fin s m e))
 same-nan (fin s m e) (fin t n d) h = absurd (true≢false h)
 
 -- both finite
-same-stands : (b linear : Float) → T (fits binary64 b) → T (finite b) → T (finite linear) → (b ≡ minusZero → ⊥) → interpolated b b linear ≡ b
+same-stands : (b linear : Float) → T (fits binary64 b) → T (finite b) → T (finite linear) → (b ≡ minusZero → ⊥)
+    → interpolated b b linear ≡ b
 same-stands nan linear t p q k = absurd p
 same-stands (inf s) linear t p q k = absurd p
 same-stands (fin s m e) nan t p q k = absurd q
 same-stands (fin s m e) (inf u) t p q k = absurd q
 same-stands (fin s m e) (fin u n d) t p q k = rw (sub-self, plus-zero-mul) (add-plus-zero binary64 s m e u t k)
 
-same-minus : (linear : Float) → T (finite linear) → interpolated minusZero minusZero linear ≡ fin (negative linear) 0 (pos 0)
+same-minus : (linear : Float) → T (finite linear)
+    → interpolated minusZero minusZero linear ≡ fin (negative linear) 0 (pos 0)
 same-minus nan q = absurd q
 same-minus (inf u) q = absurd q
 same-minus (fin u n d) q = rw (sub-self, plus-zero-mul) (add-minus-zero binary64 u)
@@ -83,7 +87,8 @@ same-minus (fin u n d) q = rw (sub-self, plus-zero-mul) (add-minus-zero binary64
 
 module _ (e : Estimator) (bins : List Float) (score : Float) (past : lastOf bins ≤ stepsUp e score) where
   -- true to the bit but for a last bin of −0
-  pub past-last : T (fits binary64 (lastBin bins)) → T (finite (lastBin bins)) → T (finite (factor e score (lastOf bins))) → (lastBin bins ≡ minusZero → ⊥)
+  pub past-last : T (fits binary64 (lastBin bins)) → T (finite (lastBin bins))
+      → T (finite (factor e score (lastOf bins))) → (lastBin bins ≡ minusZero → ⊥)
       → posteriorError e bins score ≡ lastBin bins
   past-last t p q k = last-used e bins score past ∙ same-stands _ _ t p q k
 
@@ -93,19 +98,22 @@ module _ (e : Estimator) (bins : List Float) (score : Float) (past : lastOf bins
   past-last-minus-zero h q = last-used e bins score past ∙ rw h (same-minus _ q)
 
   -- and otherwise it is a NaN
-  pub past-last-nan : finite (lastBin bins) && finite (factor e score (lastOf bins)) ≡ false → posteriorError e bins score ≡ nan
+  pub past-last-nan : finite (lastBin bins) && finite (factor e score (lastOf bins)) ≡ false
+      → posteriorError e bins score ≡ nan
   past-last-nan h = last-used e bins score past ∙ same-nan _ _ h
 
 -- ---- "A score of plus infinity gives NaN when the last bin is used": of minus infinity too
 
-pub score-infinite : (e : Estimator) (bins : List Float) (s : Bool) → lastOf bins ≤ stepsUp e (inf s) → posteriorError e bins (inf s) ≡ nan
+pub score-infinite : (e : Estimator) (bins : List Float) (s : Bool) → lastOf bins ≤ stepsUp e (inf s)
+    → posteriorError e bins (inf s) ≡ nan
 score-infinite e bins s h =
     past-last-nan e bins (inf s) h (rw (infinite-minus binary64 s (binScore e (lastOf bins)) (e .«score_step»)) (and-false (finite (lastBin bins))))
 
 -- ---- a NaN score, least score or step
 
 -- where every bin's factor is a NaN, so is the error
-all-nan : (e : Estimator) (bins : List Float) (score : Float) → ((bin : ℕ) → bin ≤ lastOf bins → factor e score bin ≡ nan)
+all-nan : (e : Estimator) (bins : List Float) (score : Float)
+    → ((bin : ℕ) → bin ≤ lastOf bins → factor e score bin ≡ nan)
     → posteriorError e bins score ≡ nan
 all-nan e bins score h =
     let low = min (lastOf bins) (stepsUp e score) in
@@ -117,15 +125,18 @@ all-nan e bins score h =
 pub score-nan : (e : Estimator) (bins : List Float) → posteriorError e bins nan ≡ nan
 score-nan e bins = all-nan e bins nan (λ bin l. rw (nan-sub, nan-div))
 
-pub least-nan : (e : Estimator) (bins : List Float) (score : Float) → e .«min_score» ≡ nan → posteriorError e bins score ≡ nan
+pub least-nan : (e : Estimator) (bins : List Float) (score : Float) → e .«min_score» ≡ nan
+    → posteriorError e bins score ≡ nan
 least-nan e bins score h = all-nan e bins score (λ bin l. rw (h, add-nan, sub-nan, nan-div))
 
-pub step-nan : (e : Estimator) (bins : List Float) (score : Float) → e .«score_step» ≡ nan → posteriorError e bins score ≡ nan
+pub step-nan : (e : Estimator) (bins : List Float) (score : Float) → e .«score_step» ≡ nan
+    → posteriorError e bins score ≡ nan
 step-nan e bins score h = all-nan e bins score (λ bin l. rw (h, div-nan))
 
 -- ---- "A score under the first bin is extrapolated": on the line through the first two bins
 
-pub under-first : (e : Estimator) (bins : List Float) (score : Float) → T (fits binary64 score) → T (fits binary64 (e .«min_score»))
+pub under-first : (e : Estimator) (bins : List Float) (score : Float) → T (fits binary64 score)
+    → T (fits binary64 (e .«min_score»))
     → T (lt plusZero (e .«score_step»)) → T (finite (e .«score_step»)) → T (lt score (e .«min_score»))
     → posteriorError e bins score ≡ interpolated (firstBin bins) (secondBin bins) (quotient e score)
 under-first e bins score t u p q h =
@@ -158,7 +169,8 @@ module _ (e : Estimator) (bins : List Float) (score : Float) (t : T (fits binary
     | inr k ↦ rw (k .1) (plus-zero-lt score (subst (λ (x : Float). T (lt score x)) (k .0) h))
   ]
 
-  flat-factor : (bin : ℕ) → bin ≤ 65536 → factor e score bin ≡ div binary64 (sub binary64 score (add binary64 plusZero (e .«min_score»))) plusZero
+  flat-factor : (bin : ℕ) → bin ≤ 65536
+      → factor e score bin ≡ div binary64 (sub binary64 score (add binary64 plusZero (e .«min_score»))) plusZero
   flat-factor bin h = rw (flat-score bin h, flat)
 
   flat-level : length bins ≤ 65536 → T (eq (e .«min_score») score) → posteriorError e bins score ≡ nan
@@ -180,7 +192,8 @@ module _ (e : Estimator) (bins : List Float) (score : Float) (t : T (fits binary
     | inr k ↦ flat-level few k
   ]
 
-  flat-under : T (lt score (e .«min_score»)) → posteriorError e bins score ≡ interpolated (firstBin bins) (secondBin bins) (inf true)
+  flat-under : T (lt score (e .«min_score»))
+      → posteriorError e bins score ≡ interpolated (firstBin bins) (secondBin bins) (inf true)
   unfolding toUnsigned
   flat-under h =
       let q = off-div binary64 (off-below-zero (sub binary64 score (e .«min_score»)) (sub-lt binary64 score (e .«min_score») t u h .0)) in
@@ -194,7 +207,8 @@ pub record Steep (first second answer : Float) : Type 0 where
   pub rising : T (lt first second) → answer ≡ inf true
   pub falling : T (lt second first) → answer ≡ inf false
 
-steep : (first second : Float) → T (fits binary64 first) → T (fits binary64 second) → T (finite first) → Steep first second (interpolated first second (inf true))
+steep : (first second : Float) → T (fits binary64 first) → T (fits binary64 second) → T (finite first)
+    → Steep first second (interpolated first second (inf true))
 steep first second t u p = record {
   level = λ h. let z = sub-level binary64 first second p h in rw (z .1, zero-mul-infinite binary64 (z .0) true) (add-nan binary64 first);
   rising = λ h. rw (off-mul binary64 true (above (sub binary64 second first) (sub-lt binary64 first second t u h .1))) (add-infinite binary64 first true p);
@@ -203,7 +217,8 @@ steep first second t u p = record {
 
 module _ (e : Estimator) (bins : List Float) (score : Float) (t : T (fits binary64 score)) (u : T (fits binary64 (e .«min_score»))) (flat : e .«score_step» ≡ plusZero)
     (h : T (lt score (e .«min_score»))) where
-  pub step-plus-zero-under : T (fits binary64 (firstBin bins)) → T (fits binary64 (secondBin bins)) → T (finite (firstBin bins))
+  pub step-plus-zero-under : T (fits binary64 (firstBin bins)) → T (fits binary64 (secondBin bins))
+      → T (finite (firstBin bins))
       → Steep (firstBin bins) (secondBin bins) (posteriorError e bins score)
   step-plus-zero-under p q r = rw (flat-under e bins score t u flat h) (steep _ _ p q r)
 

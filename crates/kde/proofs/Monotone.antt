@@ -16,14 +16,16 @@ use Rattle.floats.proofs.Order.{le-refl, le-trans, le-right, max-ge-left, max-g
 use Rattle.kde.specs.Bins.{maximumFrom, raisedFrom, raised}
 
 module _ (start : Float) where
-  raised-at : (bins : List Float) (i : ℕ) → i < length bins → getD (raisedFrom start bins) i nan ≡ maximumFrom start (drop i bins)
+  raised-at : (bins : List Float) (i : ℕ) → i < length bins
+      → getD (raisedFrom start bins) i nan ≡ maximumFrom start (drop i bins)
   unfolding raisedFrom
   raised-at [] i h = absurd (not-suc-le-zero h)
   raised-at (b ∷ bins) zero h = refl
   raised-at (b ∷ bins) (suc i) h = raised-at bins i (le-of-suc-le-suc h)
 
   -- at least the greatest from a later bin on, if that is a number
-  maximum-falls : (bins : List Float) (k : ℕ) → T (not (isNan (maximumFrom start (drop k bins)))) → T (le (maximumFrom start (drop k bins)) (maximumFrom start bins))
+  maximum-falls : (bins : List Float) (k : ℕ) → T (not (isNan (maximumFrom start (drop k bins))))
+      → T (le (maximumFrom start (drop k bins)) (maximumFrom start bins))
   unfolding maximumFrom
   maximum-falls bins zero p = le-refl (maximumFrom start bins) p
   maximum-falls [] (suc k) p = le-refl start p
@@ -33,7 +35,8 @@ module _ (start : Float) where
       le-trans (maximumFrom start (drop k bins)) m (maxNumber m b) l (max-ge-left m b (le-right (maximumFrom start (drop k bins)) m l))
 
   -- at least every bin that is a number
-  maximum-most : (bins : List Float) (k : ℕ) → k < length bins → T (not (isNan (getD bins k nan))) → T (le (getD bins k nan) (maximumFrom start bins))
+  maximum-most : (bins : List Float) (k : ℕ) → k < length bins → T (not (isNan (getD bins k nan)))
+      → T (le (getD bins k nan) (maximumFrom start bins))
   unfolding maximumFrom
   maximum-most [] k h p = absurd (not-suc-le-zero h)
   maximum-most (b ∷ bins) zero h p = max-ge-right (maximumFrom start bins) b p
@@ -43,7 +46,8 @@ module _ (start : Float) where
       le-trans (getD bins k nan) m (maxNumber m b) l (max-ge-left m b (le-right (getD bins k nan) m l))
 
   -- one of the bins, or the value that the walk starts from
-  maximum-one : (bins : List Float) → (maximumFrom start bins ≡ start) ⊎ ((k : ℕ) × (k < length bins) × (maximumFrom start bins ≡ getD bins k nan))
+  maximum-one : (bins : List Float)
+      → (maximumFrom start bins ≡ start) ⊎ ((k : ℕ) × (k < length bins) × (maximumFrom start bins ≡ getD bins k nan))
   unfolding maximumFrom
   maximum-one [] = inl refl
   maximum-one (b ∷ bins) = elim (max-either (maximumFrom start bins) b) [
@@ -66,13 +70,15 @@ module _ (bins : List Float) (i : ℕ) (h : i < length bins) where
   past j k = omega arith
 
   -- "never rise with the bin number", of numbers: a NaN stands in no order
-  pub never-rises : (j : ℕ) → i ≤ j → j < length bins → T (not (isNan (getD (raised bins) j nan))) → T (le (getD (raised bins) j nan) (getD (raised bins) i nan))
+  pub never-rises : (j : ℕ) → i ≤ j → j < length bins → T (not (isNan (getD (raised bins) j nan)))
+      → T (le (getD (raised bins) j nan) (getD (raised bins) i nan))
   never-rises j k l p =
       let later : drop (j - i) (drop i bins) ≡ drop j bins = drop-drop (j - i) i bins ∙ rw (past j k) in
       rw (place-is i h, place-is j l, ← later) (maximum-falls start (drop i bins) (j - i) (rw (place-is j l, ← later) at p))
 
   -- no less than any bin from there on that is a number; so no NaN if there is one
-  pub at-least : (j : ℕ) → i ≤ j → j < length bins → T (not (isNan (getD bins j nan))) → T (le (getD bins j nan) (getD (raised bins) i nan))
+  pub at-least : (j : ℕ) → i ≤ j → j < length bins → T (not (isNan (getD bins j nan)))
+      → T (le (getD bins j nan) (getD (raised bins) i nan))
   at-least j k l p =
       let bin : getD (drop i bins) (j - i) nan ≡ getD bins j nan = getD-drop i bins (j - i) nan ∙ rw (past j k) in
       rw (place-is i h, ← bin) (maximum-most start (drop i bins) (j - i) (rw length-drop (omega arith)) (rw (← bin) at p))

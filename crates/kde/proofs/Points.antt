@@ -49,7 +49,8 @@ pub no-scores : estimatorOf 1000 [] ≡ estimator f64Max (inf true)
 unfolding estimatorOf ofBits neg sub div ofInt
 no-scores = refl
 
-pub one-bin : estimatorOf 1 (fin false 0 (pos 0) ∷ fin false 1 (pos 0) ∷ []) ≡ estimator (fin false 0 (pos 0)) (inf false)
+pub one-bin : estimatorOf 1 (fin false 0 (pos 0) ∷ fin false 1 (pos 0) ∷ [])
+    ≡ estimator (fin false 0 (pos 0)) (inf false)
 unfolding estimatorOf minNumber maxNumber ofBits neg sub div ofInt
 one-bin = refl
 

@@ -31,19 +31,22 @@ record Passed (rows : ℕ) (match : Bool) (bins : ℕ) : Type 0 where
   range : (1 ≤ bins) × (bins ≤ 65536)
 
 passed : (rows : ℕ) (match : Bool) (bins : ℕ)
-    → ifNot (leb rows longest) TooLong (ifNot match WrongLength (ifNot (inRange bins) OutOfRange Accepted)) ≡ Accepted → Passed rows match bins
+    → ifNot (leb rows longest) TooLong (ifNot match WrongLength (ifNot (inRange bins) OutOfRange Accepted)) ≡ Accepted
+    → Passed rows match bins
 passed rows match bins e =
     let one = met (leb rows longest) TooLong _ e in
     let two = met match WrongLength _ (one .1) in
     let three = met (inRange bins) OutOfRange Accepted (two .1) in
     record { short = leb→le rows longest (rw (one .0) tt); matches = two .0; range = in-range bins (three .0) }
 
-pub bin-scores-passed : (bins scores column : ℕ) → binScoresAsked bins scores column ≡ Accepted → ((1 ≤ bins) × (bins ≤ 65536)) × (column ≡ bins)
+pub bin-scores-passed : (bins scores column : ℕ) → binScoresAsked bins scores column ≡ Accepted
+    → ((1 ≤ bins) × (bins ≤ 65536)) × (column ≡ bins)
 bin-scores-passed bins scores column e =
     let p = passed scores (eqb column bins) bins e in
     (p .range, eqb-true column bins (p .matches))
 
-pub errors-passed : (bins scores errors : ℕ) → errorsAsked bins scores errors ≡ Accepted → ((1 ≤ bins) × (bins ≤ 65536)) × (errors ≡ scores)
+pub errors-passed : (bins scores errors : ℕ) → errorsAsked bins scores errors ≡ Accepted
+    → ((1 ≤ bins) × (bins ≤ 65536)) × (errors ≡ scores)
 errors-passed bins scores errors e =
     let p = passed scores (eqb errors scores) bins e in
     (p .range, eqb-true errors scores (p .matches))
@@ -55,7 +58,9 @@ log-errors-passed logs errors e =
 
 -- of a builder and three columns, with counts of the list
 module _ (builder : Builder) (listed decoys total : ℕ) (decoyDensity targetDensity bins : List Float) where
-  pub bins-passed : binsAsked (builder .bins) listed (length decoyDensity) (length targetDensity) (length bins) ≡ Accepted → decoys ≤ total → total ≤ listed
+  pub bins-passed : binsAsked (builder .bins) listed (length decoyDensity) (length targetDensity) (length bins)
+      ≡ Accepted
+      → decoys ≤ total → total ≤ listed
       → BinsReady builder decoys total decoyDensity targetDensity bins
   bins-passed e h k =
       let n = builder .bins in

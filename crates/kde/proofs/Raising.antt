@@ -22,7 +22,8 @@ unfolding raisedFrom maximumFrom
 raising-start start column = record { high = le-refl (length column); same = refl; front = refl; back = rw drop-length; most-is = rw drop-length }
 
 pub raising-step : {start : Float} {column₀ column : List Float} {i : ℕ} {most : Float} (j : ℕ) (v : Float)
-    → Raising start column₀ column i most → i ≡ j + 1 → v ≡ maxNumber most (getD column j nan) → Raising start column₀ (set column j v) j v
+    → Raising start column₀ column i most → i ≡ j + 1 → v ≡ maxNumber most (getD column j nan)
+    → Raising start column₀ (set column j v) j v
 unfolding raisedFrom maximumFrom
 raising-step {start} {column₀} {column} {i} {most} j v w e n =
     let h = w .high in
@@ -42,6 +43,7 @@ raising-step {start} {column₀} {column} {i} {most} j v w e n =
       most-is = rw p m;
     }
 
-pub raising-done : {start : Float} {column₀ column : List Float} {i : ℕ} {most : Float} → Raising start column₀ column i most → i ≡ 0
+pub raising-done : {start : Float} {column₀ column : List Float} {i : ℕ} {most : Float}
+    → Raising start column₀ column i most → i ≡ 0
     → column ≡ raisedFrom start column₀
 raising-done {start} {column₀} {column} w e = subst (λ (n : ℕ). drop n column ≡ raisedFrom start (drop n column₀)) e (w .back)

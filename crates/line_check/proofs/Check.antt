@@ -70,7 +70,8 @@ module _ (per : ℕ) (labels : List ℤ) (line : ℕ) where
     right-answered r = accepted ∙ right-judged (right-line-only per labels line r listed)
 
     -- any other with those of the last later row that qualifies, or of the line itself
-    pub wrong-answered : (RightLine per labels line → ⊥) → lineAnswer per labels line ≡ Wrong (countsAt labels (max line (rightLine per labels)))
+    pub wrong-answered : (RightLine per labels line → ⊥)
+        → lineAnswer per labels line ≡ Wrong (countsAt labels (max line (rightLine per labels)))
     wrong-answered n = accepted ∙ wrong-judged (λ (e : line ≡ rightLine per labels). n (rw e (right-line per labels)))
 
     -- only a right line is answered with Right
@@ -107,13 +108,15 @@ module _ (per : ℕ) (labels : List ℤ) (line : ℕ) where
     pub no-row : last .row ≤ line → line ≡ 0 → Right own ≡ judgement per labels line
     no-row h e = right (omega (arith, last-row))
 
-    pub own-fails : (line ≡ 0 → ⊥) → own .targets < per * own .«decoys_plus_one» → Wrong last ≡ judgement per labels line
+    pub own-fails : (line ≡ 0 → ⊥) → own .targets < per * own .«decoys_plus_one»
+        → Wrong last ≡ judgement per labels line
     own-fails n h = wrong (λ (e : line ≡ rightLine per labels). elim (last-own (qualifies per labels) (length labels)) [
       | inl z ↦ n (e ∙ z)
       | inr t ↦ false≢true (sym (lt-leb (per * own .«decoys_plus_one») (own .targets) h) ∙ own-test ∙ ap (qualifies per labels) e ∙ t)
     ])
 
-    pub own-qualifies : line ≤ length labels → last .row ≤ line → per * own .«decoys_plus_one» ≤ own .targets → Right own ≡ judgement per labels line
+    pub own-qualifies : line ≤ length labels → last .row ≤ line → per * own .«decoys_plus_one» ≤ own .targets
+        → Right own ≡ judgement per labels line
     own-qualifies h₀ h k =
         let q : qualifies per labels line ≡ true = sym own-test ∙ le-leb (per * own .«decoys_plus_one») (own .targets) k in
         right (omega (arith, last-row, last-upper (qualifies per labels) (length labels) line q h₀))

@@ -25,7 +25,8 @@ pub counts-at : {labels : List ℤ} {i decoy target : ℕ} (row : ℕ) → Tally
     → _≡_ {A = Counts} (record { row = row; «decoys_plus_one» = decoy; targets = target }) (countsAt labels row)
 counts-at row t e = rw (← e, t .decoy-is, t .target-is)
 
-pub tally-of : (labels : List ℤ) (c : Counts) → c .row ≤ length labels → c ≡ countsAt labels (c .row) → Tally labels (c .row) (c .«decoys_plus_one») (c .targets)
+pub tally-of : (labels : List ℤ) (c : Counts) → c .row ≤ length labels → c ≡ countsAt labels (c .row)
+    → Tally labels (c .row) (c .«decoys_plus_one») (c .targets)
 tally-of labels c h e = record { high = h; decoy-is = ap (λ (x : Counts). x .«decoys_plus_one») e; target-is = ap (λ (x : Counts). x .targets) e }
 
 module _ (labels : List ℤ) {c : Counts} (row : ℕ) (h : row ≤ length labels) (e : c ≡ countsAt labels row) where
@@ -37,11 +38,13 @@ module _ (labels : List ℤ) {c : Counts} (row : ℕ) (h : row ≤ length labels
   decoys-small s = omega (arith, ap (λ (x : Counts). x .«decoys_plus_one») e, row-counts row labels)
 
 -- the counts before the first row
-pub counts-at-zero : (labels : List ℤ) → _≡_ {A = Counts} (record { row = 0; «decoys_plus_one» = 1; targets = 0 }) (countsAt labels 0)
+pub counts-at-zero : (labels : List ℤ) → _≡_ {A = Counts} (record { row = 0; «decoys_plus_one» = 1; targets = 0 })
+    (countsAt labels 0)
 unfolding decoys targets
 counts-at-zero labels = refl
 
-pub after-row-zero : (per : ℕ) (labels : List ℤ) → countsAt labels (max 0 (rightLine per labels)) ≡ countsAt labels (rightLine per labels)
+pub after-row-zero : (per : ℕ) (labels : List ℤ)
+    → countsAt labels (max 0 (rightLine per labels)) ≡ countsAt labels (rightLine per labels)
 after-row-zero per labels = let e : max 0 (rightLine per labels) ≡ rightLine per labels = omega arith in ap (countsAt labels) e
 
 -- a count times the rate fits
@@ -83,7 +86,8 @@ module _ {per : ℕ} {labels : List ℤ} {line last last-decoy last-target decoy
 
 pub later-done : {per : ℕ} {labels : List ℤ} {line last last-decoy last-target decoy target i : ℕ}
     → Later per labels line last last-decoy last-target decoy target i → length labels ≤ i
-    → _≡_ {A = Counts} (record { row = last; «decoys_plus_one» = last-decoy; targets = last-target }) (countsAt labels (max line (rightLine per labels)))
+    → _≡_ {A = Counts} (record { row = last; «decoys_plus_one» = last-decoy; targets = last-target })
+    (countsAt labels (max line (rightLine per labels)))
 later-done {per} {labels} {line} {last} {i = i} w h =
     let g = w .so-far .high in
     let e : i ≡ length labels = omega arith in

@@ -28,7 +28,8 @@ module _ (w : ℕ) (kept : Matrix) (j start : ℕ) (table : Matrix) where
       go false x = refl
 
   pub accumulated-more : (g : ℕ) {a₀ a : Vector} → a₀ ≡ accumulated w kept g j start table
-      → a ≡ tabulated (λ d. cond (ltb d w) (addKeptProduct j (start + d) (row kept g) (getD a₀ d nan)) (getD a₀ d nan)) 0 12
+      → a ≡ tabulated (λ d. cond (ltb d w) (addKeptProduct j (start + d) (row kept g) (getD a₀ d nan)) (getD a₀ d nan))
+      0 12
       → a ≡ accumulated w kept (g + 1) j start table
   unfolding accumulated
   accumulated-more g {a₀} p e = e ∙ tabulated-same 12 (λ d h. at d h)
@@ -38,14 +39,16 @@ module _ (w : ℕ) (kept : Matrix) (j start : ℕ) (table : Matrix) where
       go false f x y z v q r = q
 
       at : (d : ℕ) → d < 12
-          → cond (ltb d w) (addKeptProduct j (start + d) (row kept g) (getD a₀ d nan)) (getD a₀ d nan) ≡ accumulatedAt w kept (g + 1) j start table d
+          → cond (ltb d w) (addKeptProduct j (start + d) (row kept g) (getD a₀ d nan)) (getD a₀ d nan)
+          ≡ accumulatedAt w kept (g + 1) j start table d
       at d h =
           let added : ℕ → Float → Float = λ g. addKeptProduct j (start + d) (row kept g) in
           go (ltb d w) (added g) (forRange added 0 g (entry table j d)) (forRange added 0 (g + 1) (entry table j d)) (entry table j d) (getD a₀ d nan)
           (ap (λ (l : Vector). getD l d nan) p ∙ tabulated-at (accumulatedAt w kept g j start table) 12 d nan h)
           (for-range-last added 0 g (entry table j d) zero-le)
 
-pub pair-done : (w : ℕ) (kept : Matrix) (j : ℕ) (table : Matrix) (g m : ℕ) {a b : Vector} → g ≤ m → m ≤ g → a ≡ accumulated w kept g j j table
+pub pair-done : (w : ℕ) (kept : Matrix) (j : ℕ) (table : Matrix) (g m : ℕ) {a b : Vector} → g ≤ m → m ≤ g
+    → a ≡ accumulated w kept g j j table
     → b ≡ accumulated w kept g (j + 1) j table → set (set table j a) (j + 1) b ≡ pairAdded w kept m j table
 unfolding pairAdded
 pair-done w kept j table g m h l p q =
@@ -56,6 +59,7 @@ pair-done w kept j table g m h l p q =
 
 pub kept-added : (kept : Matrix) (m : ℕ) (f : ℕ → ℕ → Float)
     → keptAdded kept m (halfTable f)
-    ≡ halfTable (λ j d. cond (ltb d (storedWidth j)) (forRange (λ g. addKeptProduct j (2 * (j / 2) + d) (row kept g)) 0 m (f j d)) (f j d))
+    ≡ halfTable (λ j d. cond (ltb d (storedWidth j)) (forRange (λ g. addKeptProduct j (2 * (j / 2) + d) (row kept g)) 0
+    m (f j d)) (f j d))
 unfolding keptAdded pairAdded accumulated steps tabulated
 kept-added kept m f = refl

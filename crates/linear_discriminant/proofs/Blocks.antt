@@ -7,7 +7,8 @@ use Rattle.folds.proofs.Writing.{Writing}
 use Rattle.folds.proofs.Stores.{stored-block}
 use Rattle.linear_discriminant.specs.Inner.Blocks.{written}
 
-pub written-block : {f g : ℕ → Float} {d : Float} {n a b : ℕ} {column column′ : List Float} → Writing f d n column a → a ≤ b → b ≤ n
+pub written-block : {f g : ℕ → Float} {d : Float} {n a b : ℕ} {column column′ : List Float} → Writing f d n column a
+    → a ≤ b → b ≤ n
     → ((i : ℕ) → a ≤ i → i < b → g i ≡ f i) → column′ ≡ written g a b column → Writing f d n column′ b
 unfolding written
 written-block {g = g} {b = b} w l h e c = stored-block g b w l h e c

@@ -38,7 +38,8 @@ pub class-given : (l : ℤ) {c : ℕ} → mag l < 2 ^ 31 → (c ≡ classOf (toZ
 class-given l f e = e .0 ∙ ap classOf (toZ-ofZ w32 l (record { sfits = f }))
 
 -- a row that goes to its class's sums
-pub sum-turn : (features : List Float) (labels : List ℤ) (i : ℕ) (sums : Matrix) {c : ℕ} {r : List Float} → c ≡ classOf (getD labels i (pos 0))
+pub sum-turn : (features : List Float) (labels : List ℤ) (i : ℕ) (sums : Matrix) {c : ℕ} {r : List Float}
+    → c ≡ classOf (getD labels i (pos 0))
     → r ≡ addedRow features i (row sums c) → set sums c r ≡ sumRow features labels i sums
 sum-turn features labels i sums {c} e f = ap (set sums c) f ∙ ap (λ (c : ℕ). set sums c (addedRow features i (row sums c))) e
 

@@ -5,7 +5,8 @@ use lib.Ieee.{Float, nan, inf, fin, binary64, ofBits, lt, div, neg, round}
 use Rattle.floats.specs.Constants.{f64Zero, f64One}
 use Rattle.linear_discriminant.specs.Scores.{isFinite}
 
-pub between-infinities : (x : Float) → (lt x (div binary64 f64One f64Zero) && lt (div binary64 (neg f64One) f64Zero) x) ≡ isFinite x
+pub between-infinities : (x : Float)
+    → (lt x (div binary64 f64One f64Zero) && lt (div binary64 (neg f64One) f64Zero) x) ≡ isFinite x
 unfolding lt div neg ofBits round
 between-infinities nan = refl
 between-infinities (inf true) = refl

@@ -33,14 +33,16 @@ module _ (features : List Float) (labels : List ℤ) where
   abbrev meanRow : ℕ → Vector
   meanRow c = tabulated (mean features labels c) 0 20
 
-  mean-row : (c n : ℕ) → c < 2 → n ≡ classCount labels c → {sums : Matrix} {v : Vector} → sums ≡ classSums features labels → v ≡ meanOf (row sums c) n
+  mean-row : (c n : ℕ) → c < 2 → n ≡ classCount labels c → {sums : Matrix} {v : Vector}
+      → sums ≡ classSums features labels → v ≡ meanOf (row sums c) n
       → v ≡ meanRow c
   unfolding meanOf mean
   mean-row c n h e s m =
       m ∙ ap (λ (t : Matrix). meanOf (row t c) n) (s ∙ sums-are features labels (length labels))
       ∙ tabulated-same 20 (λ j l. rw (read j l, e))
     where
-      read : (j : ℕ) → j < 20 → entry (sumTable features labels (length labels)) c j ≡ classSum features labels c (length labels) j
+      read : (j : ℕ) → j < 20
+          → entry (sumTable features labels (length labels)) c j ≡ classSum features labels c (length labels) j
       read j l =
           ap (λ (r : Vector). getD r j nan) (tabulated-at (λ c. tabulated (classSum features labels c (length labels)) 0 20) 2 c [] h)
           ∙ tabulated-at (classSum features labels c (length labels)) 20 j nan l
@@ -48,7 +50,8 @@ module _ (features : List Float) (labels : List ℤ) where
   -- ---- the system
 
   scatter-at : (c j k : ℕ) → j < 20 → k < 20
-      → scatterOf (halfTable (halfEntry features labels (meanRow c) c (length labels))) j k ≡ scatter features labels c j k
+      → scatterOf (halfTable (halfEntry features labels (meanRow c) c (length labels))) j k
+      ≡ scatter features labels c j k
   unfolding scatter summed
   scatter-at c j k h l =
       scatter-is features labels (meanRow c) c (length labels) j k h l
@@ -61,7 +64,8 @@ module _ (features : List Float) (labels : List ℤ) where
       same i e f = rw (e, f)
 
   left-is : {d t : ℕ} → d ≡ decoys labels → t ≡ targets labels
-      → withinTable (halfTable (halfEntry features labels (meanRow 0) 0 (length labels))) (halfTable (halfEntry features labels (meanRow 1) 1 (length labels))) (f64OfCount d) (f64OfCount t)
+      → withinTable (halfTable (halfEntry features labels (meanRow 0) 0 (length labels)))
+      (halfTable (halfEntry features labels (meanRow 1) 1 (length labels))) (f64OfCount d) (f64OfCount t)
       ≡ leftSide features labels
   unfolding withinTable withinRow leftSide scatterWithin
   left-is {d} {t} e f =
@@ -73,10 +77,14 @@ module _ (features : List Float) (labels : List ℤ) where
 
   -- ---- the calls of `fit` one after the other
 
-  pub fitted : {d t : ℕ} {sums left : Matrix} {decoy target right : Vector} {tables : List Matrix} {s : Solution} {r : Model} → d ≡ decoys labels
-      → t ≡ targets labels → sums ≡ classSums features labels → decoy ≡ meanOf (row sums 0) d → target ≡ meanOf (row sums 1) t
+  pub fitted : {d t : ℕ} {sums left : Matrix} {decoy target right : Vector} {tables : List Matrix} {s : Solution}
+      {r : Model}
+      → d ≡ decoys labels
+      → t ≡ targets labels → sums ≡ classSums features labels → decoy ≡ meanOf (row sums 0) d
+      → target ≡ meanOf (row sums 1) t
       → tables ≡ halfTables features labels (decoy ∷ target ∷ [])
-      → left ≡ withinTable (getD tables 0 []) (getD tables 1 []) (f64OfCount d) (f64OfCount t) → right ≡ rowDifference target decoy → s ≡ solution left right 20
+      → left ≡ withinTable (getD tables 0 []) (getD tables 1 []) (f64OfCount d) (f64OfCount t)
+      → right ≡ rowDifference target decoy → s ≡ solution left right 20
       → r ≡ modelOf s → r ≡ modelOf (solution (leftSide features labels) (rightSide features labels) 20)
   unfolding halfTables tabulated
   fitted {d} {t} {right = right} e f a m n b l g h i =
@@ -96,5 +104,6 @@ module _ (s : Solution) where
   pub model-answers : s .answer ≡ solved.Answer → modelWith Coefficients (s .values) ≡ modelOf s
   model-answers e = sym (ap (λ (a : Solved). modelWith (trainedOf a) (s .values)) e)
 
-  pub model-refuses : {refusal : Refusal} → s .answer ≡ solved.Refused refusal → modelWith (Refused refusal) (s .values) ≡ modelOf s
+  pub model-refuses : {refusal : Refusal} → s .answer ≡ solved.Refused refusal
+      → modelWith (Refused refusal) (s .values) ≡ modelOf s
   model-refuses e = sym (ap (λ (a : Solved). modelWith (trainedOf a) (s .values)) e)

@@ -28,7 +28,8 @@ wrap-high q h l =
     rw (lt-ltb (q - 20) 20 z, le-ltb q 20 h)
 
 module _ (features mean : List Float) (i : ℕ) where
-  pub centred-low : (q : ℕ) → q < 20 → sub binary64 (feature features i q) (getD mean q nan) ≡ centredAt features mean i q
+  pub centred-low : (q : ℕ) → q < 20
+      → sub binary64 (feature features i q) (getD mean q nan) ≡ centredAt features mean i q
   centred-low q h = rw (wrap-low q h)
 
   pub centred-high : (q : ℕ) → 20 ≤ q → q < 28 → centredAt features mean i (q - 20) ≡ centredAt features mean i q
@@ -78,7 +79,8 @@ column-at j k h l n =
 
 -- ---- as the code finds them
 
-pub scatter-own : (table : Matrix) (j k : ℕ) {d w : ℕ} → d ≡ storedPlace j k → w ≡ storedWidth j → d < w → entry table j d ≡ scatterOf table j k
+pub scatter-own : (table : Matrix) (j k : ℕ) {d w : ℕ} → d ≡ storedPlace j k → w ≡ storedWidth j → d < w
+    → entry table j d ≡ scatterOf table j k
 unfolding scatterOf
 scatter-own table j k {d} {w} p q h =
     let t : ltb (storedPlace j k) (storedWidth j) ≡ true = lt-ltb (storedPlace j k) (storedWidth j) (subst (λ (n : ℕ). n < storedWidth j) p (subst (λ (n : ℕ). d < n) q h)) in
@@ -88,14 +90,16 @@ module _ (j k : ℕ) {d w : ℕ} where
   past : d ≡ storedPlace j k → w ≡ storedWidth j → w ≤ d → storedWidth j ≤ storedPlace j k
   past p q h = subst (λ (n : ℕ). storedWidth j ≤ n) p (subst (λ (n : ℕ). n ≤ d) q h)
 
-  pub place-other : {e : ℕ} → j < 20 → k < 20 → d ≡ storedPlace j k → w ≡ storedWidth j → w ≤ d → e ≡ storedPlace k j → e < 12
+  pub place-other : {e : ℕ} → j < 20 → k < 20 → d ≡ storedPlace j k → w ≡ storedWidth j → w ≤ d → e ≡ storedPlace k j
+      → e < 12
   place-other {e} g l p q h r =
       let s = other-has j k g l (past p q h) in
       let m = width-most k in
       let u : storedPlace k j < 12 = omega arith in
       subst (λ (n : ℕ). n < 12) (sym r) u
 
-pub scatter-other : (table : Matrix) (j k : ℕ) {d w e : ℕ} → d ≡ storedPlace j k → w ≡ storedWidth j → w ≤ d → e ≡ storedPlace k j → entry table k e ≡ scatterOf table j k
+pub scatter-other : (table : Matrix) (j k : ℕ) {d w e : ℕ} → d ≡ storedPlace j k → w ≡ storedWidth j → w ≤ d
+    → e ≡ storedPlace k j → entry table k e ≡ scatterOf table j k
 unfolding scatterOf
 scatter-other table j k p q h r =
     let t : ltb (storedPlace j k) (storedWidth j) ≡ false = le-ltb (storedPlace j k) (storedWidth j) (past j k p q h) in

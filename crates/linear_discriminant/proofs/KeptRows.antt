@@ -29,7 +29,8 @@ KeptRowsAre takes r rows m a b =
 
 -- adding them brings the table from a to b
 abbrev pub Adds : (ℕ → Bool) → (ℕ → Vector) → (ℕ → Matrix) → Type 0
-Adds takes r state = (rows : Matrix) (m a b : ℕ) → a ≤ b → KeptRowsAre takes r rows m a b → keptAdded rows m (state a) ≡ state b
+Adds takes r state =
+    (rows : Matrix) (m a b : ℕ) → a ≤ b → KeptRowsAre takes r rows m a b → keptAdded rows m (state a) ≡ state b
 
 pub record Kept (takes : ℕ → Bool) (r : ℕ → Vector) (state : ℕ → Matrix) (table rows : Matrix) (m i : ℕ) : Type 0 where
   pub from : ℕ
@@ -39,7 +40,8 @@ pub record Kept (takes : ℕ → Bool) (r : ℕ → Vector) (state : ℕ → Mat
   pub few : m < 16
   pub same : KeptRowsAre takes r rows m from i
 
-pub kept-start : {takes : ℕ → Bool} {r : ℕ → Vector} {state : ℕ → Matrix} {table rows : Matrix} → table ≡ state 0 → length rows ≡ 16
+pub kept-start : {takes : ℕ → Bool} {r : ℕ → Vector} {state : ℕ → Matrix} {table rows : Matrix} → table ≡ state 0
+    → length rows ≡ 16
     → Kept takes r state table rows 0 0
 unfolding steps
 kept-start e t = record { from = 0; low = zero-le; is = e; tall = t; few = omega arith; same = λ h s. refl }
@@ -67,12 +69,14 @@ module _ {takes : ℕ → Bool} {r : ℕ → Vector} {state : ℕ → Matrix} {t
       ∙ ap (λ (x : Vector). h x (forRange (λ g. h (row rows g)) 0 m sum)) (getD-set-same rows m v [] (subst (λ (n : ℕ). m < n) (sym (w .tall)) (w .few)) ∙ f)
       ∙ sym (last h true e sum)
 
-  pub kept-keep : takes i ≡ true → {v : Vector} → v ≡ r i → m < 15 → Kept takes r state table (set rows m v) (m + 1) (i + 1)
+  pub kept-keep : takes i ≡ true → {v : Vector} → v ≡ r i → m < 15
+      → Kept takes r state table (set rows m v) (m + 1) (i + 1)
   kept-keep e {v} f l =
       let low = w .low in
       record { from = w .from; low = omega arith; is = w .is; tall = length-set rows m v ∙ w .tall; few = omega arith; same = more e f }
 
-  pub kept-add : Adds takes r state → takes i ≡ true → {v : Vector} {table′ : Matrix} → v ≡ r i → 15 ≤ m → table′ ≡ keptAdded (set rows m v) 16 table
+  pub kept-add : Adds takes r state → takes i ≡ true → {v : Vector} {table′ : Matrix} → v ≡ r i → 15 ≤ m
+      → table′ ≡ keptAdded (set rows m v) 16 table
       → Kept takes r state table′ (set rows m v) 0 (i + 1)
   unfolding steps
   kept-add adds e {v} f l t =
@@ -90,7 +94,8 @@ module _ {takes : ℕ → Bool} {r : ℕ → Vector} {state : ℕ → Matrix} {t
         same = λ h s. sym (none h s);
       }
     where
-      none : (h : Vector → Float → Float) (s : Float) → forRange (λ i s. cond (takes i) (h (r i) s) s) (i + 1) (i + 1) s ≡ s
+      none : (h : Vector → Float → Float) (s : Float)
+          → forRange (λ i s. cond (takes i) (h (r i) s) s) (i + 1) (i + 1) s ≡ s
       none h s =
           let z : i + 1 - (i + 1) ≡ 0 = omega arith in
           ap (λ (k : ℕ). steps (λ i s. cond (takes i) (h (r i) s) s) (i + 1) k s) z
@@ -107,14 +112,17 @@ module _ (labels : List ℤ) (r : ℕ → ℕ → Vector) (state : ℕ → ℕ �
     pub two : length tables ≡ 2
     pub pair : length kept ≡ 2
     pub both : length filled ≡ 2
-    pub each-class : (c : ℕ) → c < 2 → Kept (inClass labels c) (r c) (state c) (getD tables c []) (getD kept c []) (getD filled c 0) i
+    pub each-class : (c : ℕ) → c < 2
+        → Kept (inClass labels c) (r c) (state c) (getD tables c []) (getD kept c []) (getD filled c 0) i
 
-pub gathered-start : {labels : List ℤ} {r : ℕ → ℕ → Vector} {state : ℕ → ℕ → Matrix} {s t k l : Matrix} → s ≡ state 0 0 → t ≡ state 1 0
+pub gathered-start : {labels : List ℤ} {r : ℕ → ℕ → Vector} {state : ℕ → ℕ → Matrix} {s t k l : Matrix} → s ≡ state 0 0
+    → t ≡ state 1 0
     → length k ≡ 16 → length l ≡ 16 → Gathered labels r state (s ∷ t ∷ []) (k ∷ l ∷ []) (0 ∷ 0 ∷ []) 0
 gathered-start {labels} {r} {state} {s} {t} {k} {l} e f g h = record { high = zero-le; two = refl; pair = refl; both = refl; each-class = at }
   where
     at : (c : ℕ) → c < 2
-        → Kept (inClass labels c) (r c) (state c) (getD (s ∷ t ∷ []) c []) (getD (k ∷ l ∷ []) c []) (getD (0 ∷ 0 ∷ []) c 0) 0
+        → Kept (inClass labels c) (r c) (state c) (getD (s ∷ t ∷ []) c []) (getD (k ∷ l ∷ []) c [])
+        (getD (0 ∷ 0 ∷ []) c 0) 0
     at zero p = kept-start e g
     at (suc zero) p = kept-start f h
     at (suc (suc c)) p = absurd (no c p)
@@ -137,15 +145,18 @@ module _ {labels : List ℤ} {r : ℕ → ℕ → Vector} {state : ℕ → ℕ �
   -- an entry of a list after a store at c, mine or the other's
   module _ (tables′ kept′ : List Matrix) (filled′ : List ℕ) where
     each : Kept (inClass labels c) (r c) (state c) (getD tables′ c []) (getD kept′ c []) (getD filled′ c 0) (i + 1)
-        → ((d : ℕ) → (d ≡ c → ⊥) → getD tables′ d [] ≡ getD tables d []) → ((d : ℕ) → (d ≡ c → ⊥) → getD kept′ d [] ≡ getD kept d [])
+        → ((d : ℕ) → (d ≡ c → ⊥) → getD tables′ d [] ≡ getD tables d [])
+        → ((d : ℕ) → (d ≡ c → ⊥) → getD kept′ d [] ≡ getD kept d [])
         → ((d : ℕ) → (d ≡ c → ⊥) → getD filled′ d 0 ≡ getD filled d 0) → (d : ℕ) → d < 2
         → Kept (inClass labels d) (r d) (state d) (getD tables′ d []) (getD kept′ d []) (getD filled′ d 0) (i + 1)
     each s t k f d h = go (lt-or-ge d c) (lt-or-ge c d)
       where
-        other : (d ≡ c → ⊥) → Kept (inClass labels d) (r d) (state d) (getD tables′ d []) (getD kept′ d []) (getD filled′ d 0) (i + 1)
+        other : (d ≡ c → ⊥)
+            → Kept (inClass labels d) (r d) (state d) (getD tables′ d []) (getD kept′ d []) (getD filled′ d 0) (i + 1)
         other p = rw (t d p, k d p, f d p) (kept-skip (w .each-class d h) (theirs d p))
 
-        go : (d < c) ⊎ (c ≤ d) → (c < d) ⊎ (d ≤ c) → Kept (inClass labels d) (r d) (state d) (getD tables′ d []) (getD kept′ d []) (getD filled′ d 0) (i + 1)
+        go : (d < c) ⊎ (c ≤ d) → (c < d) ⊎ (d ≤ c)
+            → Kept (inClass labels d) (r d) (state d) (getD tables′ d []) (getD kept′ d []) (getD filled′ d 0) (i + 1)
         go (inl a) b = other (λ e. omega arith)
         go (inr a) (inl b) = other (λ e. omega arith)
         go (inr a) (inr b) =
@@ -155,7 +166,8 @@ module _ {labels : List ℤ} {r : ℕ → ℕ → Vector} {state : ℕ → ℕ �
   abbrev keptNow : List Matrix
   keptNow = set kept c (set (getD kept c []) (getD filled c 0) v)
 
-  pub gathered-keep : getD filled c 0 < 15 → Gathered labels r state tables keptNow (set filled c (getD filled c 0 + 1)) (i + 1)
+  pub gathered-keep : getD filled c 0 < 15
+      → Gathered labels r state tables keptNow (set filled c (getD filled c 0 + 1)) (i + 1)
   gathered-keep l = record {
     high = omega arith;
     two = w .two;
@@ -170,7 +182,8 @@ module _ {labels : List ℤ} {r : ℕ → ℕ → Vector} {state : ℕ → ℕ �
   }
 
   pub gathered-add : Adds (inClass labels c) (r c) (state c) → {t : Matrix} → 15 ≤ getD filled c 0
-      → t ≡ keptAdded (getD keptNow c []) 16 (getD tables c []) → Gathered labels r state (set tables c t) keptNow (set filled c 0) (i + 1)
+      → t ≡ keptAdded (getD keptNow c []) 16 (getD tables c [])
+      → Gathered labels r state (set tables c t) keptNow (set filled c 0) (i + 1)
   gathered-add adds {t} l e = record {
     high = omega arith;
     two = length-set tables c t ∙ w .two;
@@ -188,9 +201,12 @@ module _ {labels : List ℤ} {r : ℕ → ℕ → Vector} {state : ℕ → ℕ �
       now = getD-set-same kept c (set (getD kept c []) (getD filled c 0) v) [] (fits kept (w .pair))
 
 -- what both classes still keep is added
-pub gathered-end : {labels : List ℤ} {r : ℕ → ℕ → Vector} {state : ℕ → ℕ → Matrix} {tables kept : List Matrix} {filled : List ℕ} {i : ℕ}
-    → Gathered labels r state tables kept filled i → length labels ≤ i → ((c : ℕ) → Adds (inClass labels c) (r c) (state c)) → {s t : Matrix}
-    → s ≡ keptAdded (getD kept 0 []) (getD filled 0 0) (getD tables 0 []) → t ≡ keptAdded (getD kept 1 []) (getD filled 1 0) (getD (set tables 0 s) 1 [])
+pub gathered-end : {labels : List ℤ} {r : ℕ → ℕ → Vector} {state : ℕ → ℕ → Matrix} {tables kept : List Matrix}
+    {filled : List ℕ} {i : ℕ}
+    → Gathered labels r state tables kept filled i → length labels ≤ i
+    → ((c : ℕ) → Adds (inClass labels c) (r c) (state c)) → {s t : Matrix}
+    → s ≡ keptAdded (getD kept 0 []) (getD filled 0 0) (getD tables 0 [])
+    → t ≡ keptAdded (getD kept 1 []) (getD filled 1 0) (getD (set tables 0 s) 1 [])
     → set (set tables 0 s) 1 t ≡ tabulated (λ c. state c (length labels)) 0 2
 unfolding tabulated
 gathered-end {labels} {r} {state} {tables} {kept} {filled} {i} w h adds {s} {t} e f =

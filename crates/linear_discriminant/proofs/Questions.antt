@@ -37,13 +37,16 @@ by-quotient n rows = go (eqb (n % 20) 0) (eqb (n / 20) rows) refl refl
         sym (ne-eqb n (20 * rows) (λ e. a (omega arith)))
 
 -- asked of the decoys counted and of what is left of the rows
-pub train-asked : (features : ℕ) (labels : List ℤ) {d : ℕ} {o : Outcome} → d ≡ decoys labels → o ≡ trainAsked features (length labels) d (length labels - d)
+pub train-asked : (features : ℕ) (labels : List ℤ) {d : ℕ} {o : Outcome} → d ≡ decoys labels
+    → o ≡ trainAsked features (length labels) d (length labels - d)
     → trainAsked features (length labels) (decoys labels) (targets labels) ≡ o
 train-asked features labels {d} e f = sym (f ∙ rw (rest-targets labels e, e))
 
 -- what `fit` requires
-pub counts-fit : (features : ℕ) (labels : List ℤ) {d : ℕ} → d ≡ decoys labels → trainAsked features (length labels) d (length labels - d) ≡ Accepted
-    → ((d ≤ longest) × (length labels - d ≤ longest) × (features ≡ 20 * length labels)) × ((d ≡ decoys labels) × (length labels - d ≡ targets labels))
+pub counts-fit : (features : ℕ) (labels : List ℤ) {d : ℕ} → d ≡ decoys labels
+    → trainAsked features (length labels) d (length labels - d) ≡ Accepted
+    → ((d ≤ longest) × (length labels - d ≤ longest) × (features ≡ 20 * length labels))
+    × ((d ≡ decoys labels) × (length labels - d ≡ targets labels))
 counts-fit features labels {d} e asked =
     let short = met (leb (length labels) longest && leb features (20 * longest)) TooLong _ asked in
     let twenty = met (eqb features (20 * length labels)) WrongLength _ (short .1) in
@@ -51,7 +54,8 @@ counts-fit features labels {d} e asked =
     let few = decoys-at-most labels e in
     ((omega arith, omega arith, eqb-true _ _ (twenty .0)), (e, rest-targets labels e))
 
-pub score-lengths : (coefficients : List Float) (features scores narrowed : ℕ) → scoreRowsAsked coefficients features scores narrowed ≡ Accepted
+pub score-lengths : (coefficients : List Float) (features scores narrowed : ℕ)
+    → scoreRowsAsked coefficients features scores narrowed ≡ Accepted
     → (features ≡ 20 * scores) × (narrowed ≡ scores)
 score-lengths coefficients features scores narrowed e =
     let short = met (leb features (20 * longest)) TooLong _ e in

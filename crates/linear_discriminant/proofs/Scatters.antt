@@ -51,7 +51,8 @@ module _ (features : List Float) (labels : List ℤ) (mean : List Float) (c : �
 
   -- the product of two columns of a kept row is the definition's
   kept-product : (j d : ℕ) → j < 20 → 2 * (j / 2) + d < 28 → (i : ℕ) (s : Float)
-      → addKeptProduct j (2 * (j / 2) + d) (kept i) s ≡ add binary64 s (centredProduct features mu j (storedColumn j d) i)
+      → addKeptProduct j (2 * (j / 2) + d) (kept i) s
+      ≡ add binary64 s (centredProduct features mu j (storedColumn j d) i)
   unfolding centredRow
   kept-product j d h l i s =
       let z : j < 28 = omega arith in
@@ -80,28 +81,32 @@ module _ (features : List Float) (labels : List ℤ) (mean : List Float) (c : �
       sums : ℕ → ℕ → ℕ → Float
       sums j d n = summed (inClass labels c) (centredProduct features mu j (storedColumn j d)) n
 
-      run : (j d : ℕ) → j < 20 → d < storedWidth j → forRange (λ g. addKeptProduct j (2 * (j / 2) + d) (row rows g)) 0 m (sums j d a) ≡ sums j d b
+      run : (j d : ℕ) → j < 20 → d < storedWidth j
+          → forRange (λ g. addKeptProduct j (2 * (j / 2) + d) (row rows g)) 0 m (sums j d a) ≡ sums j d b
       run j d l u =
           same (addKeptProduct j (2 * (j / 2) + d)) (sums j d a)
           ∙ for-range-same a b (sums j d a) (λ i p q s. ap (λ (x : Float). cond (inClass labels c i) x s) (kept-product j d l (in-kept-row j d l u) i s))
           ∙ for-range-join (addTaken (inClass labels c) (centredProduct features mu j (storedColumn j d))) 0 a b f64Zero zero-le h
 
       at : (j d : ℕ) → j < 20 → (t : Bool) → ltb d (storedWidth j) ≡ t
-          → cond t (forRange (λ g. addKeptProduct j (2 * (j / 2) + d) (row rows g)) 0 m (cond t (sums j d a) f64Zero)) (cond t (sums j d a) f64Zero)
+          → cond t (forRange (λ g. addKeptProduct j (2 * (j / 2) + d) (row rows g)) 0 m (cond t (sums j d a) f64Zero))
+          (cond t (sums j d a) f64Zero)
           ≡ cond t (sums j d b) f64Zero
       at j d l true e = run j d l (ltb-true d (storedWidth j) e)
       at j d l false e = refl
 
   -- the sum of columns j and k, wherever it is
   pub scatter-is : (n j k : ℕ) → j < 20 → k < 20
-      → scatterOf (halfTable (halfEntry features labels mean c n)) j k ≡ summed (inClass labels c) (centredProduct features mu j k) n
+      → scatterOf (halfTable (halfEntry features labels mean c n)) j k
+      ≡ summed (inClass labels c) (centredProduct features mu j k) n
   unfolding scatterOf
   scatter-is n j k h l = go (lt-or-ge (storedPlace j k) (storedWidth j))
     where
       table : Matrix
       table = halfTable (halfEntry features labels mean c n)
 
-      read : (j k : ℕ) → j < 20 → k < 20 → storedPlace j k < storedWidth j → entry table j (storedPlace j k) ≡ summed (inClass labels c) (centredProduct features mu j k) n
+      read : (j k : ℕ) → j < 20 → k < 20 → storedPlace j k < storedWidth j
+          → entry table j (storedPlace j k) ≡ summed (inClass labels c) (centredProduct features mu j k) n
       read j k h l p =
           let m = width-most j in
           let z : storedPlace j k < 12 = omega arith in
@@ -111,12 +116,14 @@ module _ (features : List Float) (labels : List ℤ) (mean : List Float) (c : �
           (ap (λ (q : ℕ). summed (inClass labels c) (centredProduct features mu j q) n) (column-at j k h l p))
 
       pick : (b : Bool) → ltb (storedPlace j k) (storedWidth j) ≡ b
-          → cond (ltb (storedPlace j k) (storedWidth j)) (entry table j (storedPlace j k)) (entry table k (storedPlace k j))
+          → cond (ltb (storedPlace j k) (storedWidth j)) (entry table j (storedPlace j k))
+          (entry table k (storedPlace k j))
           ≡ cond b (entry table j (storedPlace j k)) (entry table k (storedPlace k j))
       pick b e = ap (λ (b : Bool). cond b (entry table j (storedPlace j k)) (entry table k (storedPlace k j))) e
 
       go : (storedPlace j k < storedWidth j) ⊎ (storedWidth j ≤ storedPlace j k)
-          → cond (ltb (storedPlace j k) (storedWidth j)) (entry table j (storedPlace j k)) (entry table k (storedPlace k j)) ≡ summed (inClass labels c) (centredProduct features mu j k) n
+          → cond (ltb (storedPlace j k) (storedWidth j)) (entry table j (storedPlace j k))
+          (entry table k (storedPlace k j)) ≡ summed (inClass labels c) (centredProduct features mu j k) n
       go (inl p) = pick true (lt-ltb (storedPlace j k) (storedWidth j) p) ∙ read j k h l p
       go (inr p) =
           pick false (le-ltb (storedPlace j k) (storedWidth j) p)

@@ -20,7 +20,8 @@ use Rattle.folds.proofs.Writing.{tabulated-same, tabulated-at, tabulated-set}
 use Rattle.linear_discriminant.proofs.Classes.{class-small}
 
 module _ (features : List Float) (labels : List ℤ) where
-  pub sums-join : (from half to : ℕ) (s : Matrix) {s₁ s₂ : Matrix} → from ≤ half → half ≤ to → s₁ ≡ summedRows features labels from half s
+  pub sums-join : (from half to : ℕ) (s : Matrix) {s₁ s₂ : Matrix} → from ≤ half → half ≤ to
+      → s₁ ≡ summedRows features labels from half s
       → s₂ ≡ summedRows features labels half to s₁ → s₂ ≡ summedRows features labels from to s
   unfolding summedRows
   sums-join from half to s h l e f = f ∙ ap (forRange (sumRow features labels) half to) e ∙ for-range-join (sumRow features labels) from half to s h l

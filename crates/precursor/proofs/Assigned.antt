@@ -34,12 +34,14 @@ module _ (keys : List ℕ) where
   length-labels : length labels ≡ length keys
   length-labels = length-map keys labelOf
 
-  pub decoys-by-key : (i : ℕ) → i < length keys → decoys (take (i + 1) labels) ≡ decoys (take i labels) + decoyBit (getD keys i 0)
+  pub decoys-by-key : (i : ℕ) → i < length keys
+      → decoys (take (i + 1) labels) ≡ decoys (take i labels) + decoyBit (getD keys i 0)
   decoys-by-key i h =
       decoys-next labels i (pos 0) (omega (arith, length-labels))
       ∙ rw (List·getD-map labelOf keys i 0, bit-decoy (getD keys i 0))
 
-  pub targets-by-key : (i : ℕ) → i < length keys → targets (take (i + 1) labels) ≡ targets (take i labels) + (1 - decoyBit (getD keys i 0))
+  pub targets-by-key : (i : ℕ) → i < length keys
+      → targets (take (i + 1) labels) ≡ targets (take i labels) + (1 - decoyBit (getD keys i 0))
   targets-by-key i h =
       targets-next labels i (pos 0) (omega (arith, length-labels))
       ∙ rw (List·getD-map labelOf keys i 0, bit-target (getD keys i 0))
@@ -58,12 +60,14 @@ pub decoys-counted-start : (keys : List ℕ) → DecoysCounted keys 0 0
 unfolding decoys
 decoys-counted-start keys = record { high = zero-le; few = zero-le; is = refl }
 
-pub decoys-counted-step : (keys : List ℕ) {i decoy bit : ℕ} → DecoysCounted keys i decoy → i < length keys → bit ≡ decoyBit (getD keys i 0) → DecoysCounted keys (i + 1) (decoy + bit)
+pub decoys-counted-step : (keys : List ℕ) {i decoy bit : ℕ} → DecoysCounted keys i decoy → i < length keys
+    → bit ≡ decoyBit (getD keys i 0) → DecoysCounted keys (i + 1) (decoy + bit)
 decoys-counted-step keys {i} {decoy} {bit} w h e =
     let f = w .few in
     record { high = omega arith; few = omega arith; is = omega (arith, w .is, decoys-by-key keys i h) }
 
-pub decoys-counted-done : (keys : List ℕ) {i decoy : ℕ} → DecoysCounted keys i decoy → length keys ≤ i → decoy ≡ decoys (labels keys)
+pub decoys-counted-done : (keys : List ℕ) {i decoy : ℕ} → DecoysCounted keys i decoy → length keys ≤ i
+    → decoy ≡ decoys (labels keys)
 decoys-counted-done keys {i} w h = w .is ∙ ap decoys (take-all i (labels keys) (omega (arith, length-labels keys)))
 
 -- ---- the q-values, from the last row up
@@ -118,7 +122,8 @@ module _ (keys : List ℕ) (j : ℕ) (h : j < length keys) where
   in-q = omega (arith, q-length U, in-labels)
 
   -- the minimum from row j on, by the minimum below it and the ratio there
-  next-least : minimum (drop j (ratios U)) ≡ minNumber (minimum (drop (suc j) (ratios U))) (ratio (decoys (take (j + 1) U) + 1) (targets (take (j + 1) U)))
+  next-least : minimum (drop j (ratios U))
+      ≡ minNumber (minimum (drop (suc j) (ratios U))) (ratio (decoys (take (j + 1) U) + 1) (targets (take (j + 1) U)))
   unfolding minimum ratioAt
   next-least =
       ap minimum (drop-cons (ratios U) j nan in-ratios)
@@ -138,7 +143,8 @@ module _ (keys : List ℕ) (j : ℕ) (h : j < length keys) where
       ∙ ap₂ (λ (l : ℤ) (q : Float). cond (isDecoy l) rest (cond (le q (oneIn 20)) (suc rest) rest)) (List·getD-map labelOf keys j 0) q-here
 
   next-column : (q₀ : List Float) → scattered (drop j (map placeOf keys)) (drop j Q) q₀
-      ≡ set (scattered (drop (suc j) (map placeOf keys)) (drop (suc j) Q) q₀) (placeOf (getD keys j 0)) (minimum (drop j (ratios U)))
+      ≡ set (scattered (drop (suc j) (map placeOf keys)) (drop (suc j) Q) q₀) (placeOf (getD keys j 0))
+      (minimum (drop j (ratios U)))
   unfolding scattered
   next-column q₀ =
       let P = map placeOf keys in
@@ -154,8 +160,10 @@ module _ {keys : List ℕ} {q₀ : List Float} {i decoy target : ℕ} {least : F
   key = getD keys j 0
 
   -- one turn, at row j: the ratio there joins the minimum, which goes to the row's place
-  pub assigned-step : (bit place : ℕ) (m c : Float) → bit ≡ decoyBit key → place ≡ placeOf key → m ≡ minNumber least (ratio decoy target) → c ≡ oneIn 20
-      → Assigned keys q₀ j (decoy - bit) (target - (1 - bit)) m (passing + boolByte (le m c && eqb bit 0)) (set q place m)
+  pub assigned-step : (bit place : ℕ) (m c : Float) → bit ≡ decoyBit key → place ≡ placeOf key
+      → m ≡ minNumber least (ratio decoy target) → c ≡ oneIn 20
+      → Assigned keys q₀ j (decoy - bit) (target - (1 - bit)) m (passing + boolByte (le m c && eqb bit 0))
+      (set q place m)
   assigned-step bit place m c bit-is place-is m-is c-is =
       let U = labels keys in
       let i-is : i ≡ suc j = e ∙ add-one j in
@@ -186,9 +194,11 @@ module _ {keys : List ℕ} {q₀ : List Float} {i decoy target : ℕ} {least : F
       let t : target ≡ targets (take (j + 1) (labels keys)) = w .targets-are ∙ ap (λ (n : ℕ). targets (take n (labels keys))) e in
       omega (arith, targets-by-key keys j here)
 
-pub assigned-done : {keys : List ℕ} {q₀ : List Float} {i decoy target : ℕ} {least : Float} {passing : ℕ} {q : List Float}
+pub assigned-done : {keys : List ℕ} {q₀ : List Float} {i decoy target : ℕ} {least : Float} {passing : ℕ}
+    {q : List Float}
     → Assigned keys q₀ i decoy target least passing q → i ≡ 0
-    → (passing ≡ targetsAtMost (oneIn 20) (labels keys) (qValues (labels keys))) × (q ≡ scattered (map placeOf keys) (qValues (labels keys)) q₀)
+    → (passing ≡ targetsAtMost (oneIn 20) (labels keys) (qValues (labels keys)))
+    × (q ≡ scattered (map placeOf keys) (qValues (labels keys)) q₀)
 assigned-done {keys} {q₀} w e = (
   w .count-is ∙ ap (λ (n : ℕ). targetsAtMost (oneIn 20) (drop n (labels keys)) (drop n (qValues (labels keys)))) e,
   w .column-is ∙ ap (λ (n : ℕ). scattered (drop n (map placeOf keys)) (drop n (qValues (labels keys))) q₀) e,

@@ -26,7 +26,8 @@ use Rattle.precursor.specs.Precursors.{precursorQ, orderRun}
 use Rattle.precursor.specs.Inner.Ready.{PrecursorReady}
 
 -- no label matters but for being a decoy's
-same-count : (c : Float) (ls ls′ : List ℤ) (qs : List Float) → map isDecoy ls ≡ map isDecoy ls′ → targetsAtMost c ls qs ≡ targetsAtMost c ls′ qs
+same-count : (c : Float) (ls ls′ : List ℤ) (qs : List Float) → map isDecoy ls ≡ map isDecoy ls′
+    → targetsAtMost c ls qs ≡ targetsAtMost c ls′ qs
 unfolding targetsAtMost
 same-count c [] [] qs e = refl
 same-count c [] (l ∷ ls) qs e = cc
@@ -49,11 +50,14 @@ module _ (labels : List ℤ) (scores : List Float) (keys₀ spare₀ : List ℕ)
   assign-asks = (omega (arith, f .short, length-keys), rw (e, f .result-match) (keys-in-bounds labels scores (f .short)))
 
   -- what `picked_precursor` answers and leaves
-  pub picked : (q₀ : List Float) → length q₀ ≡ result → length labels ≡ length scores → (passing : ℕ) (q : List Float) (spare : List ℕ)
-      → passing ≡ targetsAtMost (oneIn 20) (map labelOf keys) (qValues (map labelOf keys)) → q ≡ scattered (map placeOf keys) (qValues (map labelOf keys)) q₀
+  pub picked : (q₀ : List Float) → length q₀ ≡ result → length labels ≡ length scores
+      → (passing : ℕ) (q : List Float) (spare : List ℕ)
+      → passing ≡ targetsAtMost (oneIn 20) (map labelOf keys) (qValues (map labelOf keys))
+      → q ≡ scattered (map placeOf keys) (qValues (map labelOf keys)) q₀
       → length spare ≡ length spare₀
       → rankedRun (Passing passing) (filled 0 keys) (filled 0 spare) q
-      ≡ rankedRun (Passing (targetsAtMost (oneIn 20) (asRanked labels scores) (qValues (asRanked labels scores)))) (filled 0 keys₀) (filled 0 spare₀) (precursorQ labels scores)
+      ≡ rankedRun (Passing (targetsAtMost (oneIn 20) (asRanked labels scores) (qValues (asRanked labels scores))))
+      (filled 0 keys₀) (filled 0 spare₀) (precursorQ labels scores)
   unfolding precursorQ
   picked q₀ l m passing q spare c d s =
       let rows = asRanked labels scores in
@@ -65,5 +69,6 @@ module _ (labels : List ℤ) (scores : List Float) (keys₀ spare₀ : List ℕ)
 
   -- what `precursor_order` leaves
   pub ordered : (order spare : List ℕ) → order ≡ map placeOf keys → length spare ≡ length spare₀
-      → orderRun Accepted (filled 0 keys) (filled 0 spare) order ≡ orderRun Accepted (filled 0 keys₀) (filled 0 spare₀) (rankedOrder scores)
+      → orderRun Accepted (filled 0 keys) (filled 0 spare) order
+      ≡ orderRun Accepted (filled 0 keys₀) (filled 0 spare₀) (rankedOrder scores)
   ordered order spare d s = rw (d, e, keys-places labels scores (f .short), ← e, cleared, same-blank 0 spare spare₀ s)

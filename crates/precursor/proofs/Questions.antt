@@ -11,7 +11,8 @@ use Rattle.columns.proofs.Questions.{met}
 use Rattle.precursor.specs.Precursors.{precursorAsked, orderAsked}
 use Rattle.precursor.specs.Inner.Ready.{PrecursorReady}
 
-pub order-lengths : (scores keys spare order : ℕ) → orderAsked scores keys spare order ≡ Accepted → PrecursorReady scores keys spare order
+pub order-lengths : (scores keys spare order : ℕ) → orderAsked scores keys spare order ≡ Accepted
+    → PrecursorReady scores keys spare order
 order-lengths scores keys spare order e =
     let a = met (leb scores longest) TooLong _ e in
     let b = both (eqb keys scores) _ (met _ WrongLength _ (a .1) .0) in
@@ -23,7 +24,8 @@ order-lengths scores keys spare order e =
       result-match = eqb-true order scores (c .1);
     }
 
-pub precursor-lengths : (labels scores keys spare q : ℕ) → precursorAsked labels scores keys spare q ≡ Accepted → (labels ≡ scores) × PrecursorReady scores keys spare q
+pub precursor-lengths : (labels scores keys spare q : ℕ) → precursorAsked labels scores keys spare q ≡ Accepted
+    → (labels ≡ scores) × PrecursorReady scores keys spare q
 precursor-lengths labels scores keys spare q e =
     let a = met _ TooLong _ e in
     let b = both (eqb scores labels) _ (met _ WrongLength _ (a .1) .0) in

@@ -75,7 +75,7 @@ pub extern "C" fn vayemuku_winners(
         (now («forward_seen» .entry)) (now («reverse_seen» .entry)) in
         let run = winners table (now (scores .entry)) (now («is_decoy» .entry)) in
         ⌜ r and now (scores .exit) and now («is_decoy» .exit)
-        ≡ outcomeNumber (run .answer) and run .scores and run .isDecoy ⌝ }
+        ≡ outcomeNumber (run .answer) and run .scores and run .flags ⌝ }
 {
     columns::outcome_number(competition::winners(
         forward,

@@ -25,7 +25,7 @@ pub record BatchReady (b : Batch) (t : Table) : Type 0 where
   pub lengths : LengthsMatch t
   pub slots-allowed : allAllowed (length (t .forward)) (b .slots) ≡ true
 
-pub record WinnersReady (t : Table) (scores isDecoy : ℕ) : Type 0 where
+pub record WinnersReady (t : Table) (scores flags : ℕ) : Type 0 where
   pub lengths : LengthsMatch t
   pub scores-length : scores ≡ length (t .forward)
-  pub flags-length : isDecoy ≡ length (t .forward)
+  pub flags-length : flags ≡ length (t .forward)

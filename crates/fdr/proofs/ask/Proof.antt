@@ -10,7 +10,9 @@ use Rattle.fdr.proofs.ask.Statement.{statement}
 use Rattle.fdr.proofs.ask.Tie as tie
 
 abbrev question-1 : tie.After-table-short → Bool
-question-1 c = let a = c .before .before .before .before .before .before .args in c .table-short .result && (leb (length (a .slots .now)) longest && leb (a .labels) longest)
+question-1 c =
+    let a = c .before .before .before .before .before .before .args in
+    c .table-short .result && (leb (length (a .slots .now)) longest && leb (a .labels) longest)
 
 abbrev question-2 : tie.After-table-fits → Bool
 question-2 c =

@@ -15,7 +15,8 @@ abbrev table : tie.Start → Table
 table s = let a = s .args in tableOf (a .forward .now) (a .reverse .now) (a .forward-seen .now) (a .reverse-seen .now)
 
 packs : (c : tie.After-pack)
-    → Packs (start c .args .bins .now) (table (start c)) (start c .args .slots .now) (start c .args .labels .now) (start c .args .keys .now)
+    → Packs (start c .args .bins .now) (table (start c)) (start c .args .slots .now) (start c .args .labels .now)
+    (start c .args .keys .now)
     (start c .args .spare .now) (start c .args .q .now) (c .pack .result) (c .pack .last .1 .1 .1 .1 .0)
 packs c = record {
   ready = start c .pre;
@@ -27,7 +28,9 @@ packs c = record {
 }
 
 ranks : (c : tie.After-rank)
-    → Ranks (start (c .before .before .before .before .before) .args .settings) (start (c .before .before .before .before .before) .args .bins .now) (table (start (c .before .before .before .before .before)))
+    → Ranks (start (c .before .before .before .before .before) .args .settings)
+    (start (c .before .before .before .before .before) .args .bins .now)
+    (table (start (c .before .before .before .before .before)))
     (take (c .before .before .before .before .before .pack .result) (c .before .before .before .before .before .pack .last .1 .1 .1 .1 .0)) (take (c .before .before .before .before .before .pack .result) (start (c .before .before .before .before .before) .args .spare .now))
     (c .rank .result) (c .rank .last .1 .1 .1 .1 .0) (c .rank .last .1 .1 .1 .1 .1 .0)
 ranks c = record {

@@ -27,7 +27,8 @@ truncating-f32-to-i64-requires : tie.Need-truncating-f32-to-i64-requires
 truncating-f32-to-i64-requires c κs = castable binary32 (c .before .before .args .x) (between c)
 
 known : (c : tie.After-row-known)
-    → Cut binary32 (c .before .before .before .before .args .x) (toZ w64 (ofZ w64 (c .before .truncating-f32-to-i64 .result)))
+    → Cut binary32 (c .before .before .before .before .args .x)
+    (toZ w64 (ofZ w64 (c .before .truncating-f32-to-i64 .result)))
 known c =
     cut binary32 (c .before .before .before .before .args .x) _ (passes _ (c .before .before .before .before .good .0 .1)) (between (c .before .before))
     (toZ-ofZ w64 (c .before .truncating-f32-to-i64 .result) (search needs) ∙ c .before .truncating-f32-to-i64 .ensures)

@@ -28,7 +28,8 @@ number : (c : tie.Else1) → T (not (isNan (c .before .args .x)))
 number c = not-nan (c .before .args .x) (c .if1 .left)
 
 -- what is passed on is the magnitude
-passed : (c : tie.Else1) → ofBits binary64 (toBits binary64 (c .before .args .x) % 9223372036854775808) ≡ absolute (c .before .args .x)
+passed : (c : tie.Else1)
+    → ofBits binary64 (toBits binary64 (c .before .args .x) % 9223372036854775808) ≡ absolute (c .before .args .x)
 passed c = sign-off (c .before .args .x) (passes _ (c .before .good .0 .1))
 
 float-from-bits-nearest-f32 : tie.Need-float-from-bits-nearest-f32
@@ -74,7 +75,9 @@ add-result : tie.Need-add-result
 add-result c =
     omega (arith, magnitude-bits (c .nearest-f32 .result) (fits-widens (c .nearest-f32 .result) (nearest-fits c)) (nearest-plus c), sign-small c)
   where
-    sign-small : (c : tie.After-nearest-f32) → toBits binary64 (c .before .before .args .x) - toBits binary64 (c .before .before .args .x) % 9223372036854775808 < 9223372036854775809
+    sign-small : (c : tie.After-nearest-f32)
+        → toBits binary64 (c .before .before .args .x) - toBits binary64 (c .before .before .args .x) %
+        9223372036854775808 < 9223372036854775809
     sign-small c =
         subst (λ (s : ℕ). s < 9223372036854775809) (sym (sign-part (c .before .before .args .x) (passes _ (c .before .before .good .0 .1)))) (one-bit (negative (c .before .before .args .x)))
       where

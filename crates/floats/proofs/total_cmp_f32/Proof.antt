@@ -10,7 +10,8 @@ use Rattle.floats.proofs.total_cmp_f32.Statement.{statement}
 use Rattle.floats.proofs.total_cmp_f32.Tie as tie
 
 by-key : (c : tie.After-order-key-f322)
-    → compared (c .before .before .args .a) (c .before .before .args .b) ≡ comparedNumbers (c .before .order-key-f32 .result) (c .order-key-f322 .result)
+    → compared (c .before .before .args .a) (c .before .before .args .b)
+    ≡ comparedNumbers (c .before .order-key-f32 .result) (c .order-key-f322 .result)
 by-key c =
     let good = c .before .before .good in
     compared-by-key binary32 _ _ _ _ (passes _ (good .0 .1)) (passes _ (good .1 .0 .1)) (c .before .order-key-f32 .ensures) (c .order-key-f322 .ensures)

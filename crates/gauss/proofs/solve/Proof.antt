@@ -30,7 +30,8 @@ loop-holds c = trying-start
 
 -- past the questions on the size, the first answer is the whole of it
 accepted : (c : tie.After-join Inv-loop μ-loop) {r : Solution}
-    → let a = c .before .before .before .args in r ≡ firstAnswer (a .size) (c .join .result) → r ≡ solution (a .left) (a .right) (a .size)
+    → let a = c .before .before .before .args in r ≡ firstAnswer (a .size) (c .join .result)
+    → r ≡ solution (a .left) (a .right) (a .size)
 accepted c =
     let a = c .before .before .before .args in
     in-range (a .left) (a .right) (a .size) (c .before .before .if1 .left) (c .before .if2 .left) (c .join .ensures)

@@ -7,7 +7,8 @@ use Rattle.gauss.proofs.solve_inner.Statement.{statement}
 use Rattle.gauss.proofs.solve_inner.Tie as tie
 
 -- what the four stages leave
-done-is : (c : tie.After-backfill) → let a = c .before .before .before .before .args in c .backfill .result ≡ eliminated (a .size) (a .eps) (a .system)
+done-is : (c : tie.After-backfill) → let a = c .before .before .before .before .args in
+    c .backfill .result ≡ eliminated (a .size) (a .eps) (a .system)
 done-is c =
     let a = c .before .before .before .before .args in
     stages (a .size) (a .eps) (a .system) (c .before .before .before .fill-zero .ensures) (c .before .before .echelon .ensures) (c .before .reduce .ensures)

@@ -12,7 +12,8 @@ Inv-loop forward reverse forward-seen reverse-seen scores₀ is-decoy₀ slot₀
     Slotwise (tableOf forward reverse forward-seen reverse-seen) scores is-decoy slot
 
 abbrev μ-loop : tie.MeasureT-loop
-μ-loop forward reverse forward-seen reverse-seen scores₀ is-decoy₀ slot₀ slot-end scores is-decoy slot = length forward - slot
+μ-loop forward reverse forward-seen reverse-seen scores₀ is-decoy₀ slot₀ slot-end scores is-decoy slot =
+    length forward - slot
 
 loop-again : tie.Need-loop-again Inv-loop μ-loop
 loop-again c =

@@ -15,7 +15,8 @@ Inv-loop names keys column₀ i₀ i-end column i = Naming names keys column₀ 
 abbrev μ-loop : tie.MeasureT-loop
 μ-loop names keys column₀ i₀ i-end column i = length keys - i
 
-in-bounds : (c : tie.After-name-of Inv-loop μ-loop) → c .name-of .result < length (c .before .before .before .before .before .loop .column)
+in-bounds : (c : tie.After-name-of Inv-loop μ-loop)
+    → c .name-of .result < length (c .before .before .before .before .before .loop .column)
 in-bounds c =
     let l = c .before .before .before .before .before in
     naming-in-bounds _ _ _ (l .loop .inv) (search needs) (c .before .before .place-of .ensures) (c .before .decoy-bit .ensures) _ (c .name-of .ensures) _

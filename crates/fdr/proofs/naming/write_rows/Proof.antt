@@ -16,7 +16,8 @@ use Rattle.fdr.proofs.naming.write_rows.Statement.{statement}
 use Rattle.fdr.proofs.naming.write_rows.Tie as tie
 
 abbrev Inv-loop : tie.InvT-loop
-Inv-loop names column slots labels q₀ i₀ i-end q i = Writing (λ k. readAtName names column (getD slots k 0) (getD labels k (pos 0))) nan (length slots) q i
+Inv-loop names column slots labels q₀ i₀ i-end q i =
+    Writing (λ k. readAtName names column (getD slots k 0) (getD labels k (pos 0))) nan (length slots) q i
 
 abbrev μ-loop : tie.MeasureT-loop
 μ-loop names column slots labels q₀ i₀ i-end q i = length slots - i

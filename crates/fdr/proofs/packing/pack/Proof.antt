@@ -10,7 +10,8 @@ use Rattle.fdr.proofs.packing.pack.Statement.{statement}
 use Rattle.fdr.proofs.packing.pack.Tie as tie
 
 abbrev Inv-loop : tie.InvT-loop
-Inv-loop forward reverse forward-seen reverse-seen keys₀ rows₀ slot₀ slot-end keys rows slot = Packing (tableOf forward reverse forward-seen reverse-seen) slot rows keys
+Inv-loop forward reverse forward-seen reverse-seen keys₀ rows₀ slot₀ slot-end keys rows slot =
+    Packing (tableOf forward reverse forward-seen reverse-seen) slot rows keys
 
 abbrev μ-loop : tie.MeasureT-loop
 μ-loop forward reverse forward-seen reverse-seen keys₀ rows₀ slot₀ slot-end keys rows slot = length forward - slot

@@ -17,7 +17,8 @@ use Rattle.fdr.proofs.ratios.write_ratios.Statement.{statement}
 use Rattle.fdr.proofs.ratios.write_ratios.Tie as tie
 
 abbrev Inv-loop : tie.InvT-loop
-Inv-loop settings bins forward reverse keys₀ decoy₀ target₀ i₀ i-end keys decoy target i = Summing settings bins (tableOf forward reverse [] []) keys₀ i decoy target keys
+Inv-loop settings bins forward reverse keys₀ decoy₀ target₀ i₀ i-end keys decoy target i =
+    Summing settings bins (tableOf forward reverse [] []) keys₀ i decoy target keys
 
 abbrev μ-loop : tie.MeasureT-loop
 μ-loop settings bins forward reverse keys₀ decoy₀ target₀ i₀ i-end keys decoy target i = length keys₀ - i

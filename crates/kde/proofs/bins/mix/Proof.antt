@@ -11,7 +11,8 @@ use Rattle.kde.proofs.bins.mix.Statement.{statement}
 use Rattle.kde.proofs.bins.mix.Tie as tie
 
 abbrev Inv-loop : tie.InvT-loop
-Inv-loop pi decoy-density target-density bins₀ bin₀ bins bin = Writing (posteriorBin pi decoy-density target-density) nan (length bins₀) bins bin
+Inv-loop pi decoy-density target-density bins₀ bin₀ bins bin =
+    Writing (posteriorBin pi decoy-density target-density) nan (length bins₀) bins bin
 
 abbrev μ-loop : tie.MeasureT-loop
 μ-loop pi decoy-density target-density bins₀ bin₀ bins bin = length bins₀ - bin

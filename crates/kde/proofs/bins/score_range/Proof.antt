@@ -10,7 +10,8 @@ use Rattle.kde.proofs.bins.score_range.Statement.{statement}
 use Rattle.kde.proofs.bins.score_range.Tie as tie
 
 abbrev Inv-loop : tie.InvT-loop
-Inv-loop scores min-score₀ max-score₀ i₀ min-score max-score i = Folding minNumber f64Max scores i min-score × Folding maxNumber (neg f64Max) scores i max-score
+Inv-loop scores min-score₀ max-score₀ i₀ min-score max-score i =
+    Folding minNumber f64Max scores i min-score × Folding maxNumber (neg f64Max) scores i max-score
 
 abbrev μ-loop : tie.MeasureT-loop
 μ-loop scores min-score₀ max-score₀ i₀ min-score max-score i = length scores - i

@@ -13,7 +13,8 @@ use Rattle.kde.proofs.bins.write_bin_scores.Statement.{statement}
 use Rattle.kde.proofs.bins.write_bin_scores.Tie as tie
 
 abbrev Inv-loop : tie.InvT-loop
-Inv-loop bin-scores₀ least step bin₀ bin-scores bin = Writing (binScore (record { «min_score» = least; «score_step» = step })) nan (length bin-scores₀) bin-scores bin
+Inv-loop bin-scores₀ least step bin₀ bin-scores bin =
+    Writing (binScore (record { «min_score» = least; «score_step» = step })) nan (length bin-scores₀) bin-scores bin
 
 abbrev μ-loop : tie.MeasureT-loop
 μ-loop bin-scores₀ least step bin₀ bin-scores bin = length bin-scores₀ - bin

@@ -18,7 +18,8 @@ int-to-float-min-f64 c = le→leb (c .before .before .before .args .last) (2 ^ 5
 
 -- the number that is cut
 cut : (c : tie.After-min-f64)
-    → let a = c .before .before .before .before .before .args in c .min-f64 .result ≡ held (a .last) (quotient (a .estimator) (a .score))
+    → let a = c .before .before .before .before .before .args in c .min-f64 .result
+    ≡ held (a .last) (quotient (a .estimator) (a .score))
 unfolding ofBits
 cut c = c .min-f64 .ensures ∙ ap (minNumber (past-half (c .before .before .before .before .before .args .last))) (c .before .max-f64 .ensures)
 

@@ -11,7 +11,8 @@ use Rattle.kde.proofs.estimate.write_errors.Statement.{statement}
 use Rattle.kde.proofs.estimate.write_errors.Tie as tie
 
 abbrev Inv-loop : tie.InvT-loop
-Inv-loop estimator bins scores errors₀ i₀ errors i = Writing (λ (k : ℕ). posteriorError estimator bins (getD scores k nan)) nan (length errors₀) errors i
+Inv-loop estimator bins scores errors₀ i₀ errors i =
+    Writing (λ (k : ℕ). posteriorError estimator bins (getD scores k nan)) nan (length errors₀) errors i
 
 abbrev μ-loop : tie.MeasureT-loop
 μ-loop estimator bins scores errors₀ i₀ errors i = length errors₀ - i

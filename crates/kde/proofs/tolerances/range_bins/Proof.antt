@@ -9,7 +9,8 @@ use Rattle.kde.proofs.tolerances.range_bins.Tie as tie
 
 -- the count
 count : (c : tie.After-f32-to-usize)
-    → c .f32-to-usize .result ≡ rangeBins (c .before .before .before .args .lo) (c .before .before .before .args .hi) (c .before .before .before .args .least)
+    → c .f32-to-usize .result ≡ rangeBins (c .before .before .before .args .lo) (c .before .before .before .args .hi)
+    (c .before .before .before .args .least)
 unfolding rangeBins
 count c =
     c .f32-to-usize .ensures

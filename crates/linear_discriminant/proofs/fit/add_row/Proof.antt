@@ -11,7 +11,8 @@ use Rattle.linear_discriminant.proofs.fit.add_row.Statement.{statement}
 use Rattle.linear_discriminant.proofs.fit.add_row.Tie as tie
 
 abbrev Inv-loop : tie.InvT-loop
-Inv-loop features i sum next₀ j₀ next j = Writing (λ j. add binary64 (getD sum j nan) (feature features i j)) nan 20 next j
+Inv-loop features i sum next₀ j₀ next j =
+    Writing (λ j. add binary64 (getD sum j nan) (feature features i j)) nan 20 next j
 
 abbrev μ-loop : tie.MeasureT-loop
 μ-loop features i sum next₀ j₀ next j = 20 - j

@@ -14,7 +14,8 @@ returns c =
     let a = c .before .args in
     rw (not-true (leb (a .labels) longest && leb (a .features) (20 * longest)) (c .if1 .taken))
 
-short : (c : tie.Else1) → let a = c .before .args in (leb (a .labels) longest && leb (a .features) (20 * longest)) ≡ true
+short : (c : tie.Else1)
+    → let a = c .before .args in (leb (a .labels) longest && leb (a .features) (20 * longest)) ≡ true
 short c = not-false _ (c .if1 .left)
 
 returns-2 : tie.Need-returns-2

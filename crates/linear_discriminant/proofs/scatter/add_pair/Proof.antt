@@ -13,7 +13,8 @@ use Rattle.linear_discriminant.proofs.scatter.add_pair.Statement.{state
 use Rattle.linear_discriminant.proofs.scatter.add_pair.Tie as tie
 
 abbrev Inv-loop : tie.InvT-loop
-Inv-loop table kept m j width a₀ b₀ d₀ a b d = Writing (entry table j) nan 12 a d × Writing (entry table (j + 1)) nan 12 b d
+Inv-loop table kept m j width a₀ b₀ d₀ a b d =
+    Writing (entry table j) nan 12 a d × Writing (entry table (j + 1)) nan 12 b d
 
 abbrev μ-loop : tie.MeasureT-loop
 μ-loop table kept m j width a₀ b₀ d₀ a b d = 12 - d
@@ -21,14 +22,16 @@ abbrev μ-loop : tie.MeasureT-loop
 abbrev Inv-loop3 : tie.InvT-loop3
 Inv-loop3 table kept m j width a₀ b₀ g x y d₀ a b d =
     Rewriting (λ k. getD a₀ k nan) (λ k. add binary64 (getD a₀ k nan) (mul binary64 x (entry kept g (j + k)))) nan 12 a d
-    × Rewriting (λ k. getD b₀ k nan) (λ k. add binary64 (getD b₀ k nan) (mul binary64 y (entry kept g (j + k)))) nan 12 b d
+    × Rewriting (λ k. getD b₀ k nan) (λ k. add binary64 (getD b₀ k nan) (mul binary64 y (entry kept g (j + k)))) nan 12
+    b d
     × (d ≤ width)
 
 abbrev μ-loop3 : tie.MeasureT-loop3
 μ-loop3 table kept m j width a₀ b₀ g x y d₀ a b d = width - d
 
 abbrev Inv-loop2 : tie.InvT-loop2
-Inv-loop2 table kept m j width a₀ b₀ g₀ a b g = (g ≤ m) × (a ≡ accumulated width kept g j j table) × (b ≡ accumulated width kept g (j + 1) j table)
+Inv-loop2 table kept m j width a₀ b₀ g₀ a b g =
+    (g ≤ m) × (a ≡ accumulated width kept g j j table) × (b ≡ accumulated width kept g (j + 1) j table)
 
 abbrev μ-loop2 : tie.MeasureT-loop2
 μ-loop2 table kept m j width a₀ b₀ g₀ a b g = m - g

@@ -19,7 +19,9 @@ returns-2 c =
     rw (le-leb _ (20 * longest) (t .before .if1 .left), ← (t .twenty-each .ensures), not-true (t .twenty-each .result && eqb (a .narrowed) (a .scores)) (c .if2 .taken))
 
 -- the questions before the last are met
-lengths : (c : tie.Else2) → let a = c .before .before .before .args in (leb (a .features) (20 * longest) ≡ true) × ((eqb (a .features) (20 * a .scores) && eqb (a .narrowed) (a .scores)) ≡ true)
+lengths : (c : tie.Else2)
+    → let a = c .before .before .before .args in (leb (a .features) (20 * longest) ≡ true)
+    × ((eqb (a .features) (20 * a .scores) && eqb (a .narrowed) (a .scores)) ≡ true)
 lengths c =
     let t = c .before in
     let a = t .before .before .args in

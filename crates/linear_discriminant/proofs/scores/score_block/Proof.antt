@@ -12,7 +12,8 @@ use Rattle.linear_discriminant.proofs.scores.score_block.Statement.{sta
 use Rattle.linear_discriminant.proofs.scores.score_block.Tie as tie
 
 abbrev Inv-loop2 : tie.InvT-loop2
-Inv-loop2 coefficients features scores from to i sum₀ j₀ sum j = Walk (addProduct coefficients (feature features i)) 0 j 20 sum₀ sum
+Inv-loop2 coefficients features scores from to i sum₀ j₀ sum j =
+    Walk (addProduct coefficients (feature features i)) 0 j 20 sum₀ sum
 
 abbrev μ-loop2 : tie.MeasureT-loop2
 μ-loop2 coefficients features scores from to i sum₀ j₀ sum j = 20 - j

@@ -16,12 +16,14 @@ use Rattle.precursor.proofs.passes.assign_q_value.Statement.{statement}
 use Rattle.precursor.proofs.passes.assign_q_value.Tie as tie
 
 abbrev Inv-loop : tie.InvT-loop
-Inv-loop keys q₀ i₀ decoy₀ target₀ q-min₀ passing₀ q i decoy target q-min passing = Assigned keys q₀ i decoy target q-min passing q
+Inv-loop keys q₀ i₀ decoy₀ target₀ q-min₀ passing₀ q i decoy target q-min passing =
+    Assigned keys q₀ i decoy target q-min passing q
 
 abbrev μ-loop : tie.MeasureT-loop
 μ-loop keys q₀ i₀ decoy₀ target₀ q-min₀ passing₀ q i decoy target q-min passing = i
 
-decoys-fit : (c : tie.After-count-decoys Inv-loop μ-loop) → c .count-decoys .result ≤ length (c .before .before .before .args .keys .now)
+decoys-fit : (c : tie.After-count-decoys Inv-loop μ-loop)
+    → c .count-decoys .result ≤ length (c .before .before .before .args .keys .now)
 decoys-fit c = omega (arith, c .count-decoys .ensures, all-counts (c .before .before .before .args .keys .now))
 
 add-decoy : tie.Need-add-decoy Inv-loop μ-loop

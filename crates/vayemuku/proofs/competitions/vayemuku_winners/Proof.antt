@@ -9,7 +9,7 @@ use Rattle.vayemuku.proofs.competitions.vayemuku_winners.Tie as tie
 returns : tie.Need-returns
 returns c =
     rw (c .outcome-number .ensures)
-    (ap (λ (run : WinnersRun). outcomeNumber (run .answer) and run .scores and run .isDecoy) (c .before .before .before .before .before .winners .ensures))
+    (ap (λ (run : WinnersRun). outcomeNumber (run .answer) and run .scores and run .flags) (c .before .before .before .before .before .winners .ensures))
 
 pub vayemuku-winners-spec : {M : Type 1} → statement M
 vayemuku-winners-spec =
