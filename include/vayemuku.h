@@ -106,9 +106,9 @@ uint32_t vayemuku_posterior_error(double min_score, double score_step, const dou
 uint32_t vayemuku_posterior_errors(double min_score, double score_step, const double *bins, size_t bins_len,
                                    const double *scores, size_t scores_len, double *errors, size_t errors_len);
 
-/* The bin count for mass errors within a tolerance: unit 0 is ppm, 1 is Da; *bins gets the count, or 0. Refusals: 4 any
- * other unit, 3 above 65,536. */
-uint32_t vayemuku_bin_count(uint32_t unit, float lo, float hi, size_t *bins);
+/* *bin_count gets the bin count for mass errors within a tolerance, or 0; unit 0 is ppm, 1 is Da. Refusals: 4 any other
+ * unit, 3 above 65,536. */
+uint32_t vayemuku_bin_count(uint32_t unit, float lo, float hi, size_t *bin_count);
 
 /* The host's log10 of a posterior error, narrowed, with -324 for an infinity; for one number, and for a column.
  * Refusals: 1, 2. */

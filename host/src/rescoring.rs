@@ -28,8 +28,9 @@ pub struct Rescored {
 
 /// Rescores rows.
 ///
-/// `protein_names` has one entry per row: the name of its target protein, which for a decoy is the protein that it was
-/// made from; None for a row that several proteins share. `names` says whether a decoy has a name of its own.
+/// `protein_names` has one entry per row: the name under which its protein competes, which for a generated decoy is
+/// that of the protein that it was made from; None for a row that several proteins share. `names` says whether a decoy
+/// has a name of its own.
 ///
 /// # Panics
 ///

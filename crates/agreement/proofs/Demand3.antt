@@ -128,7 +128,8 @@ precursors-accepted Accepted x count keys spare qs blanks e = (refl, cc)
 precursors-accepted (outcome.Refused r) x count keys spare qs blanks e = let z : _≡_ {A = ℕ} 0 1 = cc in absurd (omega arith)
 
 module _ (labels : List ℤ) (scores : List Float) (keys spare : List ℕ) (q : List Float) (count line : ℕ)
-    (a : pickedPrecursor labels scores keys spare q .answer ≡ Passing count) (l : line ≤ length (asRanked labels scores))
+    (a : pickedPrecursor labels scores keys spare q .answer ≡ Passing count)
+    (l : line ≤ length (asRanked labels scores))
     (r : RightLine 20 (asRanked labels scores) line) where
   let-in : (precursorAsked (length labels) (length scores) (length keys) (length spare) (length q) ≡ Accepted)
       × (count ≡ targetsAtMost (oneIn 20) (asRanked labels scores) (qValues (asRanked labels scores)))

@@ -1,4 +1,5 @@
--- The numbers of refusals. Document 01, "Questions asked of each call, in this order"; "A refusal returns its number".
+-- The numbers of refusals, and what calls answer and leave. Document 01, "Questions asked of each call, in this order";
+-- "A refusal returns its number".
 use Prim.Native.Nat.{ℕ}
 use mathlib.Core.List.{List}
 use lib.Ieee.{Float}

@@ -125,7 +125,8 @@ pub record Ranks (settings : Settings) (bins : List Float) (t : Table) (keys spa
   pub same-keys : length keys₁ ≡ length keys
   pub same-spare : length spare₁ ≡ length spare
 
-module _ {bins : List Float} {t : Table} {slots : List ℕ} {labels : List ℤ} {keys₀ spare₀ : List ℕ} {q₀ : List Float} {rows : ℕ} {keys₁ : List ℕ}
+module _ {bins : List Float} {t : Table} {slots : List ℕ} {labels : List ℤ} {keys₀ spare₀ : List ℕ} {q₀ : List Float}
+    {rows : ℕ} {keys₁ : List ℕ}
     (w : Packs bins t slots labels keys₀ spare₀ q₀ rows keys₁) where
   part : length (take rows keys₁) ≡ rows
   part = length-take-le rows keys₁ (omega (arith, w .few, w .same))
@@ -156,7 +157,8 @@ module _ {bins : List Float} {t : Table} {slots : List ℕ} {labels : List ℤ} 
   ranked-are : map (keySide t) ks ≡ rankedSides t
   ranked-are = ap (λ (l : List ℕ). map (keySide t) (sorted l)) (w .front) ∙ sorted-sides t (w .ready .pack .short) listed
 
-  module _ {settings : Settings} {count : ℕ} {part₁ spare₁ : List ℕ} (r : Ranks settings bins t (take rows keys₁) (take rows spare₀) count part₁ spare₁) where
+  module _ {settings : Settings} {count : ℕ} {part₁ spare₁ : List ℕ}
+      (r : Ranks settings bins t (take rows keys₁) (take rows spare₀) count part₁ spare₁) where
     abbrev ratios : List Float
     ratios = ratiosFrom settings bins f32One 0 (map (keySide t) ks)
 
@@ -193,7 +195,8 @@ module _ {bins : List Float} {t : Table} {slots : List ℕ} {labels : List ℤ} 
     names-ask = rw front-is (bounded (length (spare₁ ++ drop rows spare₀)) (spare-length ∙ w .ready .spare-length))
 
     -- after its call of `name_q_values`
-    module _ (column : List ℕ) (column-is : column ≡ writtenAtNames (settings .names) (take rows (part₁ ++ drop rows keys₁)) (filled 1065353216 (spare₁ ++ drop rows spare₀))) where
+    module _ (column : List ℕ) (column-is : column ≡ writtenAtNames (settings .names)
+        (take rows (part₁ ++ drop rows keys₁)) (filled 1065353216 (spare₁ ++ drop rows spare₀))) where
       ones : List ℕ
       ones = filled 1065353216 (spare₁ ++ drop rows spare₀)
 

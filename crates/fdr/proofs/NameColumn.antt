@@ -41,33 +41,35 @@ pub record Naming (names : Names) (keys column₀ : List ℕ) (i : ℕ) (column 
 pub naming-start : (names : Names) (keys column : List ℕ) → Naming names keys column 0 column
 naming-start names keys column = record { high = zero-le; same = refl; is = refl }
 
-module _ (names : Names) (keys column₀ : List ℕ) {i : ℕ} {column : List ℕ} (w : Naming names keys column₀ i column) where
-  pub naming-done : length keys ≤ i → column ≡ writtenAtNames names keys column₀
-  unfolding writtenAtNames
-  naming-done h = ap (λ (ks : List ℕ). writtenAtNames names ks column) (sym (drop-of-length-le keys h)) ∙ w .is
-
-  module _ (h : i < length keys) {place bit : ℕ} (p : place ≡ placeOf (getD keys i 0)) (b : bit ≡ decoyBit (getD keys i 0))
-      (name : ℕ) (n : name ≡ nameOf names place (eqb bit 1)) where
-    e : name ≡ keyName names (getD keys i 0)
-    e = n ∙ ap₂ (λ (x y : ℕ). nameOf names x (eqb y 1)) p b
-
-    pub naming-step : (upper : ℕ) → upper ≡ upperOf (getD keys i 0)
-        → Naming names keys column₀ (i + 1) (set column name upper)
+module _ (names : Names) (keys column₀ : List ℕ) {i : ℕ} {column : List ℕ} (w : Naming names keys column₀ i column)
+  where
+    pub naming-done : length keys ≤ i → column ≡ writtenAtNames names keys column₀
     unfolding writtenAtNames
-    naming-step upper u = record {
-      high = omega arith;
-      same = length-set column name upper ∙ w .same;
-      is = ap₂ (λ (m v : ℕ). writtenAtNames names (drop (i + 1) keys) (set column m v)) e u
-          ∙ ap (λ (n : ℕ). writtenAtNames names (drop n keys) (set column (keyName names (getD keys i 0)) (upperOf (getD keys i 0)))) (add-one i)
-          ∙ ap (λ (ks : List ℕ). writtenAtNames names ks column) (sym (drop-cons keys i 0 h))
-          ∙ w .is;
-    }
+    naming-done h = ap (λ (ks : List ℕ). writtenAtNames names ks column) (sym (drop-of-length-le keys h)) ∙ w .is
 
-    -- the name is one of the column's places
-    pub naming-in-bounds : (m : ℕ) → length column₀ ≡ m → All (λ k. NamesInBounds m (placeOf k)) keys
-        → name < length column
-    naming-in-bounds m l all =
-        rw (e, w .same, l) (name-in-bounds names (placeOf (getD keys i 0)) _ m (all-at (λ k. NamesInBounds m (placeOf k)) 0 keys all i h))
+    module _ (h : i < length keys) {place bit : ℕ} (p : place ≡ placeOf (getD keys i 0))
+        (b : bit ≡ decoyBit (getD keys i 0))
+        (name : ℕ) (n : name ≡ nameOf names place (eqb bit 1)) where
+      e : name ≡ keyName names (getD keys i 0)
+      e = n ∙ ap₂ (λ (x y : ℕ). nameOf names x (eqb y 1)) p b
+
+      pub naming-step : (upper : ℕ) → upper ≡ upperOf (getD keys i 0)
+          → Naming names keys column₀ (i + 1) (set column name upper)
+      unfolding writtenAtNames
+      naming-step upper u = record {
+        high = omega arith;
+        same = length-set column name upper ∙ w .same;
+        is = ap₂ (λ (m v : ℕ). writtenAtNames names (drop (i + 1) keys) (set column m v)) e u
+            ∙ ap (λ (n : ℕ). writtenAtNames names (drop n keys) (set column (keyName names (getD keys i 0)) (upperOf (getD keys i 0)))) (add-one i)
+            ∙ ap (λ (ks : List ℕ). writtenAtNames names ks column) (sym (drop-cons keys i 0 h))
+            ∙ w .is;
+      }
+
+      -- the name is one of the column's places
+      pub naming-in-bounds : (m : ℕ) → length column₀ ≡ m → All (λ k. NamesInBounds m (placeOf k)) keys
+          → name < length column
+      naming-in-bounds m l all =
+          rw (e, w .same, l) (name-in-bounds names (placeOf (getD keys i 0)) _ m (all-at (λ k. NamesInBounds m (placeOf k)) 0 keys all i h))
 
 -- ---- what a name reads
 

@@ -58,7 +58,8 @@ listed-down : (t : Table) (lo lo′ hi : ℕ) (ss : List Side) → lo′ ≤ lo 
 listed-down t lo lo′ hi [] h w = tt
 listed-down t lo lo′ hi (s ∷ ss) h w = let o = w .0 in (record { low = le-trans h (o .low); high = o .high; of = o .of; fit = o .fit }, w .1)
 
-module _ (t : Table) (forward-fit : (i : ℕ) → T (fits binary32 (getD (t .forward) i nan))) (reverse-fit : (i : ℕ) → T (fits binary32 (getD (t .reverse) i nan))) where
+module _ (t : Table) (forward-fit : (i : ℕ) → T (fits binary32 (getD (t .forward) i nan)))
+    (reverse-fit : (i : ℕ) → T (fits binary32 (getD (t .reverse) i nan))) where
   of-forward : (slot hi : ℕ) → slot * 2 + 1 < hi → OfTable t (slot * 2) hi (sideOf t slot false)
   of-forward slot hi h = record { low = omega arith; high = omega arith; of = refl; fit = forward-fit slot }
 

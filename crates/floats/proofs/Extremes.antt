@@ -14,22 +14,23 @@ use Rattle.floats.proofs.Order.{le-refl, le-trans, le-left, le-right, m
 -- of `f a b` and two numbers it may stand in an order with, for both orders
 module _ (f : Float → Float → Float) (R : Float → Float → Type 0) (same : (a : Float) → T (not (isNan a)) → R a a)
     (trans : (a b c : Float) → R a b → R b c → R a c) (number : (a b : Float) → R a b → T (not (isNan a)))
-    (left : (a b : Float) → T (not (isNan a)) → R (f a b) a) (right : (a b : Float) → T (not (isNan b)) → R (f a b) b) where
-  folded-start : (m : Float) (l : List Float) → T (not (isNan m)) → R (folded f m l) m
-  unfolding folded
-  folded-start m [] p = same m p
-  folded-start m (x ∷ l) p =
-      let h = left m x p in
-      trans (folded f (f m x) l) (f m x) m (folded-start (f m x) l (number (f m x) m h)) h
+    (left : (a b : Float) → T (not (isNan a)) → R (f a b) a) (right : (a b : Float) → T (not (isNan b)) → R (f a b) b)
+  where
+    folded-start : (m : Float) (l : List Float) → T (not (isNan m)) → R (folded f m l) m
+    unfolding folded
+    folded-start m [] p = same m p
+    folded-start m (x ∷ l) p =
+        let h = left m x p in
+        trans (folded f (f m x) l) (f m x) m (folded-start (f m x) l (number (f m x) m h)) h
 
-  folded-any : (m : Float) (l : List Float) (k : ℕ) → k < length l → T (not (isNan (getD l k nan)))
-      → R (folded f m l) (getD l k nan)
-  unfolding folded
-  folded-any m [] k h p = absurd (not-suc-le-zero h)
-  folded-any m (x ∷ l) zero h p =
-      let r = right m x p in
-      trans (folded f (f m x) l) (f m x) x (folded-start (f m x) l (number (f m x) x r)) r
-  folded-any m (x ∷ l) (suc k) h p = folded-any (f m x) l k (le-of-suc-le-suc h) p
+    folded-any : (m : Float) (l : List Float) (k : ℕ) → k < length l → T (not (isNan (getD l k nan)))
+        → R (folded f m l) (getD l k nan)
+    unfolding folded
+    folded-any m [] k h p = absurd (not-suc-le-zero h)
+    folded-any m (x ∷ l) zero h p =
+        let r = right m x p in
+        trans (folded f (f m x) l) (f m x) x (folded-start (f m x) l (number (f m x) x r)) r
+    folded-any m (x ∷ l) (suc k) h p = folded-any (f m x) l k (le-of-suc-le-suc h) p
 
 module _ (m : Float) (l : List Float) (k : ℕ) (h : k < length l) (p : T (not (isNan (getD l k nan)))) where
   pub least-le : T (le (folded minNumber m l) (getD l k nan))

@@ -53,7 +53,8 @@ digits-most n h = size-le n 1127 (rw (← pow-add, mul-one) at h)
 -- ---- the bits, whose lower part is the digits without the leading one, and whose upper part is the exponent field
 
 module _ (b n : ℕ) (least : 1074 ≤ size n) (most : size n ≤ 1127)
-    (bits : b ≡ 0 + (size n - 53) * 4503599627370496 + n / 2 ^ (size n - 53)) (field : b / 4503599627370496 ≡ size n - 52) where
+    (bits : b ≡ 0 + (size n - 53) * 4503599627370496 + n / 2 ^ (size n - 53))
+    (field : b / 4503599627370496 ≡ size n - 52) where
   shifted : (b % 4503599627370496 + 4503599627370496) / 2 ^ (1075 - b / 4503599627370496) ≡ n / 2 ^ 1074
   shifted =
       let k = size n - 53 in

@@ -63,7 +63,7 @@ pub fn count_to_f32(count: u32) -> f32
 }
 
 // The whole part of a number from 1/2 up to 2^53: its digits, the leading one put back, shifted by its exponent. From
-// 1/2 on the shift is of at most 53 places, so that nothing branches at 1.
+// 1/2 on the shift is at most 53 places, and no branch at 1 is needed.
 pub fn whole_part(x: f64) -> u64
     requires { ⌜ T (le (fin false 1 (negsuc 0)) x) × T (lt x (fin false 1 (pos 53))) ⌝ }
     ensures { λ r. ⌜ r ≡ toUnsigned 64 x ⌝ }

@@ -148,7 +148,8 @@ under-first e bins score t u p q h =
 -- ---- "Step +0 gives NaN for a score at or above the least; under it, on finite bins, the same formula gives an
 -- infinity, or NaN where the first two bins are equal or there is one bin."
 
-module _ (e : Estimator) (bins : List Float) (score : Float) (t : T (fits binary64 score)) (u : T (fits binary64 (e .«min_score»))) (flat : e .«score_step» ≡ plusZero) where
+module _ (e : Estimator) (bins : List Float) (score : Float) (t : T (fits binary64 score))
+    (u : T (fits binary64 (e .«min_score»))) (flat : e .«score_step» ≡ plusZero) where
   -- every bin has the least score, as 0 + least
   flat-score : (bin : ℕ) → bin ≤ 65536 → binScore e bin ≡ add binary64 plusZero (e .«min_score»)
   unfolding ofInt
@@ -215,7 +216,8 @@ steep first second t u p = record {
   falling = λ h. rw (off-mul binary64 true (off-below-zero (sub binary64 second first) (sub-lt binary64 second first u t h .0))) (add-infinite binary64 first false p);
 }
 
-module _ (e : Estimator) (bins : List Float) (score : Float) (t : T (fits binary64 score)) (u : T (fits binary64 (e .«min_score»))) (flat : e .«score_step» ≡ plusZero)
+module _ (e : Estimator) (bins : List Float) (score : Float) (t : T (fits binary64 score))
+    (u : T (fits binary64 (e .«min_score»))) (flat : e .«score_step» ≡ plusZero)
     (h : T (lt score (e .«min_score»))) where
   pub step-plus-zero-under : T (fits binary64 (firstBin bins)) → T (fits binary64 (secondBin bins))
       → T (finite (firstBin bins))

@@ -5,3 +5,4 @@ pub mod Monotone
 pub mod Steps
 pub mod Estimates
 pub mod Points
+pub mod Widths

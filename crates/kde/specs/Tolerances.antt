@@ -14,7 +14,8 @@ use Rattle.kde.specs.declared.BinCount.{BinCount}
 use Rattle.kde.specs.declared.BinCount.the-variants.{Bins, Refused}
 use Rattle.kde.specs.Bins.{inRange}
 
--- Rust's (hi - lo).max(least).ceil().abs() as usize, in f32; `ceil-max-absolute` says that abs() changes nothing
+-- Rust's (hi - lo).max(least).ceil().abs() as usize, in f32. abs() changes nothing where `least` is above 0:
+-- `ppm-with-abs`, `da-with-abs`.
 unfoldable pub rangeBins : Float → Float → Float → ℕ
 unfolding ceiled maxNumber
 rangeBins lo hi least = toUnsigned 64 (ceiled binary32 (maxNumber (sub binary32 hi lo) least))

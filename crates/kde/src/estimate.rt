@@ -11,8 +11,8 @@ use crate::Posterior;
 use columns::Outcome;
 use columns::Refusal;
 
-// The bin at or below a score, or the first. The number of steps is held between the halves of the first and of the
-// last bin before it is cut to a whole number, so that nothing branches; the Rust's floor changes nothing before a cut.
+// The bin at or below a score, or the first. The number of steps is held between 1/2 and 1/2 past the last bin before
+// it is cut to a whole number, so that nothing branches; the Rust's floor changes nothing before a cut.
 fn lower_bin(estimator: Estimator, last: usize, score: f64) -> usize
     requires { ⌜ last < 65536 ⌝ }
     ensures { λ r. ⌜ r ≡ min last (stepsUp estimator score) ⌝ }

@@ -5,7 +5,8 @@ use crate::BinCount;
 use crate::Tolerance;
 use columns::Refusal;
 
-// The number of bins from lo to hi, and at least `least`. The Rust's abs() is left out: the number is above zero.
+// The number of bins from lo to hi, and at least `least`. The Rust's abs() is left out: it changes nothing
+// where `least` is above zero.
 fn range_bins(lo: f32, hi: f32, least: f32) -> BinCount
     ensures { λ r. ⌜ r ≡ countAnswer (rangeBins lo hi least) ⌝ }
 {

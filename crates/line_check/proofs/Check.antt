@@ -42,7 +42,8 @@ NoneLater per labels row = (later : ℕ) → row < later → later ≤ length la
 module _ (per : ℕ) (labels : List ℤ) (line : ℕ) where
   -- the row whose numbers a wrong line gets: the last later row that qualifies, or, if none does, the line itself
   pub wrong-row : let row = max line (rightLine per labels) in
-      ((line < row) × (qualifies per labels row ≡ true) × NoneLater per labels row) ⊎ ((row ≡ line) × NoneLater per labels line)
+      ((line < row) × (qualifies per labels row ≡ true) × NoneLater per labels row) ⊎
+      ((row ≡ line) × NoneLater per labels line)
   wrong-row = elim (lt-or-ge line (rightLine per labels)) [
     | inl h ↦
         let e : max line (rightLine per labels) ≡ rightLine per labels = omega arith in
@@ -86,7 +87,8 @@ module _ (per : ℕ) (labels : List ℤ) (line : ℕ) where
 
   -- ---- as the call finds it, from the counts at the line and at the last later row that qualifies
 
-  module _ {own last : Counts} (o : own ≡ countsAt labels line) (l : last ≡ countsAt labels (max (own .row) (rightLine per labels))) where
+  module _ {own last : Counts} (o : own ≡ countsAt labels line)
+      (l : last ≡ countsAt labels (max (own .row) (rightLine per labels))) where
     last-is : last ≡ countsAt labels (max line (rightLine per labels))
     last-is = l ∙ ap (λ (c : Counts). countsAt labels (max (c .row) (rightLine per labels))) o
 

@@ -69,20 +69,21 @@ later-start per {labels} {line} t = record {
 }
 
 module _ {per : ℕ} {labels : List ℤ} {line last last-decoy last-target decoy target i decoy′ target′ : ℕ}
-    (w : Later per labels line last last-decoy last-target decoy target i) (t : Tally labels (i + 1) decoy′ target′) where
-  -- the next row does not qualify
-  pub later-passed : target′ < per * decoy′ → Later per labels line last last-decoy last-target decoy′ target′ (i + 1)
-  later-passed h =
-      let p = w .past in
-      let q : qualifies per labels (i + 1) ≡ false = rw (← (t .decoy-is), ← (t .target-is)) (lt-leb (per * decoy′) target′ h) in
-      record { past = omega arith; so-far = t; at-last = w .at-last; is = w .is ∙ rw (last-next (qualifies per labels) i, q) }
+    (w : Later per labels line last last-decoy last-target decoy target i) (t : Tally labels (i + 1) decoy′ target′)
+  where
+    -- the next row does not qualify
+    pub later-passed : target′ < per * decoy′ → Later per labels line last last-decoy last-target decoy′ target′ (i + 1)
+    later-passed h =
+        let p = w .past in
+        let q : qualifies per labels (i + 1) ≡ false = rw (← (t .decoy-is), ← (t .target-is)) (lt-leb (per * decoy′) target′ h) in
+        record { past = omega arith; so-far = t; at-last = w .at-last; is = w .is ∙ rw (last-next (qualifies per labels) i, q) }
 
-  -- or it does
-  pub later-found : per * decoy′ ≤ target′ → Later per labels line (i + 1) decoy′ target′ decoy′ target′ (i + 1)
-  later-found h =
-      let p = w .past in
-      let q : qualifies per labels (i + 1) ≡ true = rw (← (t .decoy-is), ← (t .target-is)) (le-leb (per * decoy′) target′ h) in
-      record { past = omega arith; so-far = t; at-last = t; is = rw (last-next (qualifies per labels) i, q) (omega arith) }
+    -- or it does
+    pub later-found : per * decoy′ ≤ target′ → Later per labels line (i + 1) decoy′ target′ decoy′ target′ (i + 1)
+    later-found h =
+        let p = w .past in
+        let q : qualifies per labels (i + 1) ≡ true = rw (← (t .decoy-is), ← (t .target-is)) (le-leb (per * decoy′) target′ h) in
+        record { past = omega arith; so-far = t; at-last = t; is = rw (last-next (qualifies per labels) i, q) (omega arith) }
 
 pub later-done : {per : ℕ} {labels : List ℤ} {line last last-decoy last-target decoy target i : ℕ}
     → Later per labels line last last-decoy last-target decoy target i → length labels ≤ i

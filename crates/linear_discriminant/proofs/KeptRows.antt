@@ -25,7 +25,8 @@ use Rattle.folds.proofs.Stores.{stored-pair}
 -- any step h on the first m kept rows gives what it gives on the rows taken from a up to b
 abbrev pub KeptRowsAre : (ℕ → Bool) → (ℕ → Vector) → Matrix → ℕ → ℕ → ℕ → Type 0
 KeptRowsAre takes r rows m a b =
-    (h : Vector → Float → Float) (sum : Float) → forRange (λ g. h (row rows g)) 0 m sum ≡ forRange (λ i s. cond (takes i) (h (r i) s) s) a b sum
+    (h : Vector → Float → Float) (sum : Float) → forRange (λ g. h (row rows g)) 0 m sum
+    ≡ forRange (λ i s. cond (takes i) (h (r i) s) s) a b sum
 
 -- adding them brings the table from a to b
 abbrev pub Adds : (ℕ → Bool) → (ℕ → Vector) → (ℕ → Matrix) → Type 0
@@ -46,7 +47,8 @@ pub kept-start : {takes : ℕ → Bool} {r : ℕ → Vector} {state : ℕ → Ma
 unfolding steps
 kept-start e t = record { from = 0; low = zero-le; is = e; tall = t; few = omega arith; same = λ h s. refl }
 
-module _ {takes : ℕ → Bool} {r : ℕ → Vector} {state : ℕ → Matrix} {table rows : Matrix} {m i : ℕ} (w : Kept takes r state table rows m i) where
+module _ {takes : ℕ → Bool} {r : ℕ → Vector} {state : ℕ → Matrix} {table rows : Matrix} {m i : ℕ}
+    (w : Kept takes r state table rows m i) where
   last : (h : Vector → Float → Float) (b : Bool) → takes i ≡ b → (sum : Float)
       → forRange (λ i s. cond (takes i) (h (r i) s) s) (w .from) (i + 1) sum
       ≡ cond b (h (r i) (forRange (λ g. h (row rows g)) 0 m sum)) (forRange (λ g. h (row rows g)) 0 m sum)
@@ -130,8 +132,10 @@ gathered-start {labels} {r} {state} {s} {t} {k} {l} e f g h = record { high = ze
         no : (c : ℕ) → suc (suc c) < 2 → ⊥
         no c p = omega arith
 
-module _ {labels : List ℤ} {r : ℕ → ℕ → Vector} {state : ℕ → ℕ → Matrix} {tables kept : List Matrix} {filled : List ℕ} {i c : ℕ}
-    (w : Gathered labels r state tables kept filled i) (below : i < length labels) (small : c < 2) (own : c ≡ classOf (getD labels i (pos 0))) {v : Vector}
+module _ {labels : List ℤ} {r : ℕ → ℕ → Vector} {state : ℕ → ℕ → Matrix} {tables kept : List Matrix} {filled : List ℕ}
+    {i c : ℕ}
+    (w : Gathered labels r state tables kept filled i) (below : i < length labels) (small : c < 2)
+    (own : c ≡ classOf (getD labels i (pos 0))) {v : Vector}
     (centred : v ≡ r c i) where
   mine : inClass labels c i ≡ true
   mine = eq-eqb (classOf (getD labels i (pos 0))) c (sym own)

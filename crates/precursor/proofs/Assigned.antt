@@ -135,7 +135,8 @@ module _ (keys : List ℕ) (j : ℕ) (h : j < length keys) where
 
   next-count : targetsAtMost (oneIn 20) (drop j U) (drop j Q)
       ≡ (let rest = targetsAtMost (oneIn 20) (drop (suc j) U) (drop (suc j) Q) in
-      cond (isDecoy (labelOf (getD keys j 0))) rest (cond (le (minimum (drop j (ratios U))) (oneIn 20)) (suc rest) rest))
+      cond (isDecoy (labelOf (getD keys j 0))) rest
+      (cond (le (minimum (drop j (ratios U))) (oneIn 20)) (suc rest) rest))
   unfolding targetsAtMost
   next-count =
       let rest = targetsAtMost (oneIn 20) (drop (suc j) U) (drop (suc j) Q) in

@@ -38,7 +38,8 @@ same-count c (l ∷ ls) (l′ ∷ ls′) (q ∷ qs) e =
     rw (b, same-count c ls ls′ qs (cc))
 
 module _ (labels : List ℤ) (scores : List Float) (keys₀ spare₀ : List ℕ) {result : ℕ}
-    (f : PrecursorReady (length scores) (length keys₀) (length spare₀) result) (keys : List ℕ) (e : keys ≡ sorted (rowKeys labels scores)) where
+    (f : PrecursorReady (length scores) (length keys₀) (length spare₀) result) (keys : List ℕ)
+    (e : keys ≡ sorted (rowKeys labels scores)) where
   pub length-keys : length keys ≡ length scores
   length-keys = rw e (length-row-keys labels scores)
 

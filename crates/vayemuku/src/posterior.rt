@@ -152,15 +152,15 @@ fn tolerance(unit: u32, lo: f32, hi: f32) -> Tolerance
     Tolerance::Pct(lo, hi)
 }
 
-// `bins` gets the bin count for mass errors within a tolerance, or 0.
+// `bin_count` gets the bin count for mass errors within a tolerance, or 0.
 #[no_mangle]
-pub extern "C" fn vayemuku_bin_count(unit: u32, lo: f32, hi: f32, bins: &mut usize) -> u32
+pub extern "C" fn vayemuku_bin_count(unit: u32, lo: f32, hi: f32, bin_count: &mut usize) -> u32
     ensures { λ r.
         let answer = binCountAnswer (toleranceOf unit lo hi) in
-        ⌜ r and now (bins .exit) ≡ binCountNumber answer and binCountBins answer ⌝ }
+        ⌜ r and now («bin_count» .exit) ≡ binCountNumber answer and binCountBins answer ⌝ }
 {
     let answer = kde::bin_count(tolerance(unit, lo, hi));
-    *bins = kde::bin_count_bins(answer);
+    *bin_count = kde::bin_count_bins(answer);
     kde::bin_count_number(answer)
 }
 

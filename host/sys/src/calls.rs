@@ -210,9 +210,9 @@ pub fn posterior_errors(estimator: EstimatorRef, scores: &[f64], errors: &mut [f
 }
 
 /// Module 4: the number of bins for mass errors within a tolerance; unit 0 is ppm, and 1 is Da.
-pub fn bin_count(unit: u32, lo: f32, hi: f32, bins: &mut usize) -> Returned {
-    // SAFETY: `bins` is one number.
-    unsafe { named::vayemuku_bin_count(unit, lo, hi, bins) }
+pub fn bin_count(unit: u32, lo: f32, hi: f32, bin_count: &mut usize) -> Returned {
+    // SAFETY: `bin_count` is one number.
+    unsafe { named::vayemuku_bin_count(unit, lo, hi, bin_count) }
 }
 
 /// Module 4: the log10 of every posterior error, narrowed, with -324 for an infinity.

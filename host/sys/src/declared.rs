@@ -191,7 +191,7 @@ refusing_calls! {
     ) -> u32;
 
     /// Module 4: the number of bins for mass errors within a tolerance.
-    BinCount: fn vayemuku_bin_count(unit: u32, lo: f32, hi: f32, bins: *mut usize) -> u32;
+    BinCount: fn vayemuku_bin_count(unit: u32, lo: f32, hi: f32, bin_count: *mut usize) -> u32;
 
     /// Module 4: the log10 of every posterior error, narrowed, with -324 for an infinity.
     LogErrors: fn vayemuku_log_errors(

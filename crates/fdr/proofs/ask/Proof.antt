@@ -19,7 +19,8 @@ question-2 c =
     let a = c .before .before .before .before .before .before .before .before .args in
     let rows = length (a .slots .now) in
     let sides = 2 * length (a .forward .now) in
-    c .table-fits .result && ((eqb (a .labels) rows && eqb (a .q) rows) && (eqb (a .keys) sides && eqb (a .spare) sides))
+    c .table-fits .result && ((eqb (a .labels) rows && eqb (a .q) rows) &&
+    (eqb (a .keys) sides && eqb (a .spare) sides))
 
 returns : tie.Need-returns
 returns c = rw (← c .before .table-short .ensures, not-true (question-1 (c .before)) (c .if1 .taken))

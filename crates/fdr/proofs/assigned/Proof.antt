@@ -31,7 +31,10 @@ ranks : (c : tie.After-rank)
     → Ranks (start (c .before .before .before .before .before) .args .settings)
     (start (c .before .before .before .before .before) .args .bins .now)
     (table (start (c .before .before .before .before .before)))
-    (take (c .before .before .before .before .before .pack .result) (c .before .before .before .before .before .pack .last .1 .1 .1 .1 .0)) (take (c .before .before .before .before .before .pack .result) (start (c .before .before .before .before .before) .args .spare .now))
+    (take (c .before .before .before .before .before .pack .result)
+    (c .before .before .before .before .before .pack .last .1 .1 .1 .1 .0))
+    (take (c .before .before .before .before .before .pack .result)
+    (start (c .before .before .before .before .before) .args .spare .now))
     (c .rank .result) (c .rank .last .1 .1 .1 .1 .0) (c .rank .last .1 .1 .1 .1 .1 .0)
 ranks c = record {
   count-is = c .rank .ensures .0;

@@ -59,7 +59,8 @@ module _ (c : tie.After-nearest-f32) where
 
   -- the bits with the sign's on top are those of the argument converted
   signed : ofBits binary64 (toBits binary64 (c .nearest-f32 .result)
-      + (toBits binary64 (c .before .before .args .x) - toBits binary64 (c .before .before .args .x) % 9223372036854775808))
+      + (toBits binary64 (c .before .before .args .x) - toBits binary64 (c .before .before .args .x) %
+      9223372036854775808))
       ≡ converted binary32 (c .before .before .args .x)
   signed =
       let x = c .before .before .args .x in

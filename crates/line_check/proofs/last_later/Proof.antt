@@ -9,11 +9,13 @@ use Rattle.line_check.proofs.last_later.Statement.{statement}
 use Rattle.line_check.proofs.last_later.Tie as tie
 
 abbrev Inv-loop : tie.InvT-loop
-Inv-loop labels per last-row₀ last-decoys₀ last-targets₀ decoys₀ targets₀ i₀ last-row last-decoys last-targets decoys targets i =
+Inv-loop labels per last-row₀ last-decoys₀ last-targets₀ decoys₀ targets₀ i₀ last-row last-decoys last-targets decoys
+    targets i =
     Later per labels i₀ last-row last-decoys last-targets decoys targets i
 
 abbrev μ-loop : tie.MeasureT-loop
-μ-loop labels per last-row₀ last-decoys₀ last-targets₀ decoys₀ targets₀ i₀ last-row last-decoys last-targets decoys targets i =
+μ-loop labels per last-row₀ last-decoys₀ last-targets₀ decoys₀ targets₀ i₀ last-row last-decoys last-targets decoys
+    targets i =
     length labels - i
 
 loop-holds : tie.Need-loop-holds Inv-loop μ-loop

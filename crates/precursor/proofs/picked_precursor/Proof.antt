@@ -20,7 +20,9 @@ returns c =
 
 questions-met : (c : tie.After-enum-told)
     → (let a = c .before .before .before .before .before .before .before .args in
-    (length (a .labels .now) ≡ length (a .scores .now)) × PrecursorReady (length (a .scores .now)) (length (a .keys .now)) (length (a .spare .now)) (length (a .q .now)))
+    (length (a .labels .now) ≡ length (a .scores .now))
+    × PrecursorReady (length (a .scores .now)) (length (a .keys .now)) (length (a .spare .now))
+    (length (a .q .now)))
 questions-met c = precursor-lengths _ _ _ _ _ (sym (c .before .before .ask .ensures) ∙ c .enum-told .given .1)
 
 pack-requires : tie.Need-pack-requires

@@ -21,8 +21,8 @@ impl Decoys {
         }
     }
 
-    /// The name under which a row's protein competes: that of the target. None where several proteins share the row, or
-    /// there is none.
+    /// The name under which a row's protein competes: with generated decoys that of the target, and with decoys of a
+    /// FASTA file its own. None where several proteins share the row, or there is none.
     pub fn protein_name<'a>(
         &self,
         label: i32,

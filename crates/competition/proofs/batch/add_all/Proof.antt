@@ -9,11 +9,14 @@ use Rattle.competition.proofs.batch.add_all.Statement.{statement}
 use Rattle.competition.proofs.batch.add_all.Tie as tie
 
 abbrev Inv-loop : tie.InvT-loop
-Inv-loop slots labels scores forward₀ reverse₀ forward-seen₀ reverse-seen₀ i₀ i-end forward reverse forward-seen reverse-seen i =
-    Adding (batchOf slots labels scores) (tableOf forward₀ reverse₀ forward-seen₀ reverse-seen₀) (tableOf forward reverse forward-seen reverse-seen) i
+Inv-loop slots labels scores forward₀ reverse₀ forward-seen₀ reverse-seen₀ i₀ i-end forward reverse forward-seen
+    reverse-seen i =
+    Adding (batchOf slots labels scores) (tableOf forward₀ reverse₀ forward-seen₀ reverse-seen₀)
+    (tableOf forward reverse forward-seen reverse-seen) i
 
 abbrev μ-loop : tie.MeasureT-loop
-μ-loop slots labels scores forward₀ reverse₀ forward-seen₀ reverse-seen₀ i₀ i-end forward reverse forward-seen reverse-seen i =
+μ-loop slots labels scores forward₀ reverse₀ forward-seen₀ reverse-seen₀ i₀ i-end forward reverse forward-seen
+    reverse-seen i =
     length slots - i
 
 loop-holds : tie.Need-loop-holds Inv-loop μ-loop

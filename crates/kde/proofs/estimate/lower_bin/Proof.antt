@@ -1,5 +1,5 @@
--- `kde::estimate::lower_bin` meets its contract: the number of steps is held as a float between the halves of the first
--- and of the last bin, and then cut.
+-- `kde::estimate::lower_bin` meets its contract: the number of steps is held as a float between 1/2 and 1/2 past the
+-- last bin, and then cut.
 use mathlib.Core.Path.{_≡_, sym, ap, _∙_}
 use Prim.Native.Nat.{_^_, min}
 use native.Mathlib.Omega.{arith}

@@ -21,7 +21,8 @@ abbrev μ-loop : tie.MeasureT-loop
 
 abbrev Inv-loop3 : tie.InvT-loop3
 Inv-loop3 table kept m j width a₀ b₀ g x y d₀ a b d =
-    Rewriting (λ k. getD a₀ k nan) (λ k. add binary64 (getD a₀ k nan) (mul binary64 x (entry kept g (j + k)))) nan 12 a d
+    Rewriting (λ k. getD a₀ k nan) (λ k. add binary64 (getD a₀ k nan) (mul binary64 x (entry kept g (j + k)))) nan 12 a
+    d
     × Rewriting (λ k. getD b₀ k nan) (λ k. add binary64 (getD b₀ k nan) (mul binary64 y (entry kept g (j + k)))) nan 12
     b d
     × (d ≤ width)

@@ -16,7 +16,8 @@ use Rattle.linear_discriminant.proofs.scatter.class_scatters.Tie as tie
 
 abbrev Inv-loop : tie.InvT-loop
 Inv-loop features labels means tables₀ kept₀ filled₀ i₀ i-end tables kept filled i =
-    Gathered labels (λ c i. centredRow features i (row means c)) (λ c n. halfTable (halfEntry features labels (row means c) c n)) tables kept filled i
+    Gathered labels (λ c i. centredRow features i (row means c))
+    (λ c n. halfTable (halfEntry features labels (row means c) c n)) tables kept filled i
 
 abbrev μ-loop : tie.MeasureT-loop
 μ-loop features labels means tables₀ kept₀ filled₀ i₀ i-end tables kept filled i = length labels - i

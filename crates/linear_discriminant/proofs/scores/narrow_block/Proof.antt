@@ -10,7 +10,8 @@ use Rattle.linear_discriminant.proofs.scores.narrow_block.Tie as tie
 
 abbrev Inv-loop : tie.InvT-loop
 Inv-loop scores narrowed₀ from to i₀ narrowed i =
-    (length narrowed ≡ length narrowed₀) × Walk (λ i column. set column i (narrowedScore scores i)) from i to narrowed₀ narrowed
+    (length narrowed ≡ length narrowed₀) × Walk (λ i column. set column i (narrowedScore scores i)) from i to narrowed₀
+    narrowed
 
 abbrev μ-loop : tie.MeasureT-loop
 μ-loop scores narrowed₀ from to i₀ narrowed i = to - i

@@ -13,7 +13,8 @@ use Rattle.linear_discriminant.proofs.scores.score_all.Tie as tie
 
 abbrev Inv-loop : tie.InvT-loop
 Inv-loop coefficients features scores₀ narrowed₀ rows from₀ scores narrowed from =
-    Writing (scoreAt coefficients features) nan rows scores from × Writing (narrowedAt coefficients features) nan rows narrowed from
+    Writing (scoreAt coefficients features) nan rows scores from
+    × Writing (narrowedAt coefficients features) nan rows narrowed from
 
 abbrev μ-loop : tie.MeasureT-loop
 μ-loop coefficients features scores₀ narrowed₀ rows from₀ scores narrowed from = rows - from

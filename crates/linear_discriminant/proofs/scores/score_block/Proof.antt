@@ -20,7 +20,8 @@ abbrev μ-loop2 : tie.MeasureT-loop2
 
 abbrev Inv-loop : tie.InvT-loop
 Inv-loop coefficients features scores₀ from to i₀ scores i =
-    (length scores ≡ length scores₀) × Walk (λ i column. set column i (scoreAt coefficients features i)) from i to scores₀ scores
+    (length scores ≡ length scores₀) × Walk (λ i column. set column i (scoreAt coefficients features i)) from i to
+    scores₀ scores
 
 abbrev μ-loop : tie.MeasureT-loop
 μ-loop coefficients features scores₀ from to i₀ scores i = to - i
