@@ -17,9 +17,7 @@ const BINS: usize = 1000;
 /// Times every call; false where both sides do not give the same.
 pub fn run() -> bool {
     println!("{ROWS} rows, {BINS} bins, one thread; every column is allocated before the clock starts.");
-    println!(
-        "errors: random scores, a quarter of them past each end of the bins; in bins: none of them past an end."
-    );
+    println!("errors: random scores, a quarter of them past each end of the bins; in bins: none of them past an end.");
     println!(
         "Beside the port's column call is sage's posterior_error for each score: \"called\", and \"inlined\" in a loop"
     );
