@@ -25,7 +25,7 @@ use Rattle.floats.specs.Ratio.{oneIn}
 use Rattle.floats.proofs.Ratio.{sharp-100, sharp-20}
 use Rattle.counting.specs.Labels.{isDecoy, targets}
 use Rattle.counting.specs.Lines.{qualifies, RightLine, rightLine}
-use Rattle.counting.specs.QValues.{qValues, atMost, targetsAtMost}
+use Rattle.counting.specs.QValues.{qValues, countAtMost, targetsAtMost}
 use Rattle.counting.proofs.Lines.{last-in-list, right-line, right-line-only}
 use Rattle.counting.proofs.QValues.{q-length, q-at-most, count-is-line}
 use Rattle.qvalue.specs.Spectrum.{SpectrumRun, spectrumRun, spectrumAsked, spectrumQValue}
@@ -77,9 +77,9 @@ spectra-accepted (outcome.Refused r) x count qs blanks e = let z : _≡_ {A = �
 
 module _ (labels : List ℤ) (q : List Float) (count line : ℕ) (a : spectrumQValue labels q .answer ≡ Passing count)
     (l : line ≤ length labels) (r : RightLine 100 labels line) where
-  took : (spectrumAsked (length labels) (length q) ≡ Accepted) × (count ≡ atMost (oneIn 100) (qValues labels))
+  took : (spectrumAsked (length labels) (length q) ≡ Accepted) × (count ≡ countAtMost (oneIn 100) (qValues labels))
   unfolding spectrumQValue
-  took = spectra-accepted (spectrumAsked (length labels) (length q)) (atMost (oneIn 100) (qValues labels)) count (qValues labels) (filled nan q) a
+  took = spectra-accepted (spectrumAsked (length labels) (length q)) (countAtMost (oneIn 100) (qValues labels)) count (qValues labels) (filled nan q) a
 
   short : length labels ≤ longest
   short = spectrum-lengths (length labels) (length q) (took .0) .1

@@ -6,7 +6,7 @@ use Rattle.floats.specs.MinMax.{minNumber, maxNumber}
 use Rattle.floats.specs.Ratio.{oneIn}
 use Rattle.counting.specs.Labels.{decoys, targets}
 use Rattle.counting.specs.Lines.{lastRow}
-use Rattle.counting.specs.QValues.{ratioAt, ratios, minimum, runningMinimum, qValues, atMost}
+use Rattle.counting.specs.QValues.{ratioAt, ratios, minimum, runningMinimum, qValues, countAtMost}
 use Rattle.qvalue.specs.Spectrum.{spectrumQValue}
 use Rattle.line_check.specs.Check.{lineAnswer}
 use Rattle.gauss.proofs.Known as systems
@@ -23,7 +23,7 @@ unfolding freshTable addRows added allAllowed maxNumber lt ofBits
 two-slots-are = refl
 
 pub known-points : KnownPoints
-unfolding spectrumQValue lineAnswer lastRow qValues ratios ratioAt runningMinimum minimum atMost tabulated minNumber oneIn decoys targets ofBits ofInt div lt le round
+unfolding spectrumQValue lineAnswer lastRow qValues ratios ratioAt runningMinimum minimum countAtMost tabulated minNumber oneIn decoys targets ofBits ofInt div lt le round
 known-points = record {
   no-rows = refl;
   no-rows-line = refl;

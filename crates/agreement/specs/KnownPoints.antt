@@ -37,8 +37,8 @@ abbrev pub decoy : ℤ
 decoy = negsuc 0
 
 -- a whole number as a float
-abbrev pub whole : ℕ → Float
-whole n = fin false n (pos 0)
+abbrev pub asFloat : ℕ → Float
+asFloat n = fin false n (pos 0)
 
 -- n targets, then one decoy
 abbrev pub thenDecoy : ℕ → List ℤ
@@ -56,7 +56,7 @@ twoBins = fin false 1 (negsuc 0) ∷ fin false 1 (negsuc 1) ∷ []
 abbrev pub twoSlots : Table
 twoSlots =
     let initial = tableOf (nan ∷ nan ∷ []) (nan ∷ nan ∷ []) (9 ∷ 9 ∷ []) (9 ∷ 9 ∷ []) in
-    let batch = batchOf (0 ∷ 1 ∷ []) (target ∷ target ∷ []) (fin false 1 (pos 1) ∷ whole 1 ∷ []) in
+    let batch = batchOf (0 ∷ 1 ∷ []) (target ∷ target ∷ []) (fin false 1 (pos 1) ∷ asFloat 1 ∷ []) in
     addRows batch (freshTable initial .table) .table
 
 pub record KnownPoints : Type 0 where
@@ -64,9 +64,9 @@ pub record KnownPoints : Type 0 where
   pub no-rows : spectrumQValue [] [] .answer ≡ Passing 0
   pub no-rows-line : lineAnswer 100 [] 0 ≡ Right (counts 0 1 0)
   -- "one decoy: q 1.0"
-  pub one-decoy : spectrumQValue (decoy ∷ []) (nan ∷ []) .q ≡ whole 1 ∷ []
+  pub one-decoy : spectrumQValue (decoy ∷ []) (nan ∷ []) .q ≡ asFloat 1 ∷ []
   -- "target, decoy, target: q 1, 1, 1. Labels 0 and 7 are targets."
-  pub three-rows : spectrumQValue (target ∷ decoy ∷ target ∷ []) (replicate 3 nan) .q ≡ replicate 3 (whole 1)
+  pub three-rows : spectrumQValue (target ∷ decoy ∷ target ∷ []) (replicate 3 nan) .q ≡ replicate 3 (asFloat 1)
   pub zero-and-seven : lineAnswer 100 (pos 0 ∷ pos 7 ∷ []) 2 ≡ Wrong (counts 2 1 2)
   -- "20 targets, one decoy at one in 20: line 20, 20 targets"; "19 targets: line 0"; and, not marked, "40 targets, one
   -- decoy: line 41, 40 targets"
@@ -74,14 +74,15 @@ pub record KnownPoints : Type 0 where
   pub nineteen : lineAnswer 20 (thenDecoy 19) 0 ≡ Right (counts 0 1 0)
   pub forty : lineAnswer 20 (thenDecoy 40) 41 ≡ Right (counts 41 2 40)
   -- "system [−1E-8], right side 5: answer 5", whatever stands past the size
-  pub minus-small : (left : Matrix) (right : Vector) → entry left 0 0 ≡ neg small → getD right 0 nan ≡ whole 5
-      → solution left right 1 ≡ solvedWith (whole 5 ∷ replicate 19 f64Zero)
+  pub minus-small : (left : Matrix) (right : Vector) → entry left 0 0 ≡ neg small → getD right 0 nan ≡ asFloat 5
+      → solution left right 1 ≡ solvedWith (asFloat 5 ∷ replicate 19 f64Zero)
   -- "system [NaN]: 7"
   pub not-a-number : (left : Matrix) (right : Vector) → entry left 0 0 ≡ nan → solution left right 1 ≡ blank Unsolved
   -- "bins 0.5, 0.25, least 0, step 1: score 0.5 gives 0.375; 2 gives 0.25; −3 gives 1.25"
-  pub between : posteriorError (estimator (whole 0) (whole 1)) twoBins (fin false 1 (negsuc 0)) ≡ fin false 3 (negsuc 2)
-  pub past : posteriorError (estimator (whole 0) (whole 1)) twoBins (fin false 1 (pos 1)) ≡ fin false 1 (negsuc 1)
-  pub under : posteriorError (estimator (whole 0) (whole 1)) twoBins (fin true 3 (pos 0)) ≡ fin false 5 (negsuc 1)
+  pub between : posteriorError (estimator (asFloat 0) (asFloat 1)) twoBins (fin false 1 (negsuc 0))
+      ≡ fin false 3 (negsuc 2)
+  pub past : posteriorError (estimator (asFloat 0) (asFloat 1)) twoBins (fin false 1 (pos 1)) ≡ fin false 1 (negsuc 1)
+  pub under : posteriorError (estimator (asFloat 0) (asFloat 1)) twoBins (fin true 3 (pos 0)) ≡ fin false 5 (negsuc 1)
   -- "ppm −10 to 10: 100 bins"
   pub ppm : binCountAnswer (Ppm (fin true 5 (pos 1)) (fin false 5 (pos 1))) ≡ Bins 100
   -- "equal forward and reverse: decoy wins", in every table, for a slot that is seen
@@ -89,7 +90,7 @@ pub record KnownPoints : Type 0 where
       → T (eq (getD (t .forward) slot nan) (getD (t .reverse) slot nan)) → decoyFlag t slot ≡ 1
   -- "two target slots scored 2.0 and 1.0, bins 0.5, 0.25, least 1, step 1: q 0.875 for both, count 0"
   pub two-slots : (names : Names)
-      → let settings : Settings = record { names = names; estimator = estimator (whole 1) (whole 1) } in
+      → let settings : Settings = record { names = names; estimator = estimator (asFloat 1) (asFloat 1) } in
       let labels = target ∷ target ∷ [] in
       assignQValue settings twoBins twoSlots (0 ∷ 1 ∷ []) labels (replicate 4 9) (replicate 4 9) (nan ∷ nan ∷ [])
       ≡ rankedRun (Passing 0) (replicate 4 0) (replicate 4 0) (replicate 2 (fin false 7 (negsuc 2)))

@@ -39,15 +39,15 @@ module _ (b : Batch) (t : Table) where
       let slots = length (b .slots) in
       let short = met (batchShort b && tableShort t) TooLong _ e in
       let fits = met (batchFits b && tableFits t) WrongLength _ (short .1) in
-      let one = both (batchShort b) (tableShort t) (short .0) in
-      let two = both (batchFits b) (tableFits t) (fits .0) in
-      let rows = both (eqb (length (b .labels)) slots) (eqb (length (b .scores)) slots) (two .0) in
+      let first = both (batchShort b) (tableShort t) (short .0) in
+      let second = both (batchFits b) (tableFits t) (fits .0) in
+      let rows = both (eqb (length (b .labels)) slots) (eqb (length (b .scores)) slots) (second .0) in
       record {
-        short = leb-true slots longest (both (leb slots longest) _ (one .0) .0);
-        table-short = one .1;
+        short = leb-true slots longest (both (leb slots longest) _ (first .0) .0);
+        table-short = first .1;
         labels-length = eqb-true _ slots (rows .0);
         scores-length = eqb-true _ slots (rows .1);
-        lengths = lengths-match t (two .1);
+        lengths = lengths-match t (second .1);
         slots-allowed = met (allAllowed (length (t .forward)) (b .slots)) NoSuchSlot Accepted (fits .1) .0;
       }
 

@@ -15,7 +15,7 @@ use lib.Ieee.{Float, nan, binary32, ofBits, isNan, le}
 use mir.Val.{boolByte}
 use Rattle.folds.proofs.Tests.{byte-added}
 use Rattle.floats.specs.MinMax.{minNumber}
-use Rattle.counting.specs.QValues.{ratio, ratioAt, ratios, minimum, runningMinimum, atMost}
+use Rattle.counting.specs.QValues.{ratio, ratioAt, ratios, minimum, runningMinimum, countAtMost}
 use Rattle.counting.proofs.QValues.{length-ratios, ratios-at}
 use Rattle.counting.proofs.RunningMinimum.{minimum-number, length-running-minimum}
 use Rattle.counting.proofs.Tally.{Tally, tally-start}
@@ -57,10 +57,10 @@ pub record MinimumWalk (c : Float) (rs q : List Float) (low : Float) (passing i 
   pub front : take i q ≡ take i rs
   pub back : drop i q ≡ runningMinimum (drop i rs)
   pub low-is : low ≡ minimum (drop i rs)
-  pub passing-is : passing ≡ atMost c (runningMinimum (drop i rs))
+  pub passing-is : passing ≡ countAtMost c (runningMinimum (drop i rs))
 
 pub minimum-walk-start : {c : Float} {rs : List Float} → MinimumWalk c rs rs (ofBits binary32 0x3F800000) 0 (length rs)
-unfolding minimum runningMinimum atMost
+unfolding minimum runningMinimum countAtMost
 minimum-walk-start {c} {rs} = record {
   high = le-refl (length rs);
   same = refl;
@@ -77,7 +77,7 @@ minimum-walk-number {rs = rs} {i = i} w = rw (w .low-is) (minimum-number (drop i
 pub minimum-walk-next : {c : Float} {rs q : List Float} {low low′ : Float} {passing i : ℕ} (j : ℕ) → i ≡ j + 1
     → MinimumWalk c rs q low passing i
     → low′ ≡ minNumber low (getD q j nan) → MinimumWalk c rs (set q j low′) low′ (passing + boolByte (le low′ c)) j
-unfolding minimum runningMinimum atMost
+unfolding minimum runningMinimum countAtMost
 minimum-walk-next {c} {rs} {q} {low} {low′} {passing} {i} j e w n =
     let h = w .high in
     let r = getD rs j nan in
@@ -94,19 +94,19 @@ minimum-walk-next {c} {rs} {q} {low} {low′} {passing} {i} j e w n =
       back = rw (drop-cons (set q j low′) j nan (lt-length-set q j low′ l′), getD-set-same q j low′ nan l′)
           (rw (drop-set-lt (suc j) q j low′ (le-refl (suc j)), s, w .back, p, m));
       low-is = rw p m;
-      passing-is = rw (p, ← m, w .passing-is) (byte-added (le low′ c) (atMost c (runningMinimum (drop i rs))));
+      passing-is = rw (p, ← m, w .passing-is) (byte-added (le low′ c) (countAtMost c (runningMinimum (drop i rs))));
     }
 
 pub minimum-walk-done : {c : Float} {rs q : List Float} {low : Float} {passing i : ℕ} → MinimumWalk c rs q low passing i
     → i ≤ 0
-    → (passing ≡ atMost c (runningMinimum rs)) × (q ≡ runningMinimum rs)
+    → (passing ≡ countAtMost c (runningMinimum rs)) × (q ≡ runningMinimum rs)
 minimum-walk-done {c} {rs} {q} {low} {passing} {i} w h =
     let z : i ≡ 0 = omega arith in
-    (subst (λ (n : ℕ). passing ≡ atMost c (runningMinimum (drop n rs))) z (w .passing-is), subst (λ (n : ℕ). drop n q ≡ runningMinimum (drop n rs)) z (w .back))
+    (subst (λ (n : ℕ). passing ≡ countAtMost c (runningMinimum (drop n rs))) z (w .passing-is), subst (λ (n : ℕ). drop n q ≡ runningMinimum (drop n rs)) z (w .back))
 
 -- no more than the column has places
-at-most-length : (c : Float) (qs : List Float) → atMost c qs ≤ length qs
-unfolding atMost
+at-most-length : (c : Float) (qs : List Float) → countAtMost c qs ≤ length qs
+unfolding countAtMost
 at-most-length c [] = zero-le
 at-most-length c (q ∷ qs) = go (le q c) (at-most-length c qs)
   where

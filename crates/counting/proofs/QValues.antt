@@ -21,7 +21,7 @@ use Rattle.floats.proofs.Order.{lt-of-le-of-lt, lt-of-lt-of-le}
 use Rattle.floats.proofs.Ratio.{Sharp, one-rounding, ratio-at-most, ratio-none, ratio-mono}
 use Rattle.counting.specs.Labels.{isDecoy, decoys, targets}
 use Rattle.counting.specs.Lines.{qualifies, rightLine}
-use Rattle.counting.specs.QValues.{ratio, ratioAt, ratios, minimum, qValues, atMost}
+use Rattle.counting.specs.QValues.{ratio, ratioAt, ratios, minimum, qValues, countAtMost}
 use Rattle.counting.proofs.Labels.{row-counts, same-decoys, same-targets, same-length}
 use Rattle.counting.proofs.Lines.{last-in-list, last-own, last-upper}
 use Rattle.folds.proofs.Writing.{length-tabulated, getD-tabulated}
@@ -133,7 +133,7 @@ module _ (labels : List ℤ) (short : length labels ≤ 16777215) where
         (λ t. le→leb (i + 1) (rightLine k labels) (low-qualifies i t)) (λ t. qualifies-low i (leb→le (i + 1) (rightLine k labels) t)))
 
     -- and they are as many
-    pub count-is-line : atMost (oneIn k) (qValues labels) ≡ rightLine k labels
+    pub count-is-line : countAtMost (oneIn k) (qValues labels) ≡ rightLine k labels
     count-is-line =
         count-up (oneIn k) (qValues labels) (rightLine k labels) (rw q-length (last-in-list (qualifies k labels) (length labels)))
         (λ (i : ℕ) (h : i < length (qValues labels)). q-at-most i (rw q-length at h) ∙ rw add-one)

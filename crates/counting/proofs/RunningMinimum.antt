@@ -14,7 +14,7 @@ use Rattle.folds.proofs.Tests.{or-l, or-r, or-split}
 use Rattle.floats.specs.MinMax.{minNumber}
 use Rattle.floats.proofs.Order.{le-left, le-refl, le-min, lt→not-le, min-either, min-le-left}
 use Rattle.floats.specs.Constants.{f32One}
-use Rattle.counting.specs.QValues.{minimum, runningMinimum, atMost}
+use Rattle.counting.specs.QValues.{minimum, runningMinimum, countAtMost}
 
 -- ---- the least
 
@@ -79,8 +79,8 @@ running-minimum-rise (r ∷ s ∷ rs) (suc i) h = running-minimum-rise (s ∷ rs
 -- ---- a column whose numbers up to a line are at most c, and no others, has that many at most c
 
 pub count-up : (c : Float) (qs : List Float) (line : ℕ) → line ≤ length qs
-    → ((i : ℕ) → i < length qs → le (getD qs i nan) c ≡ leb (suc i) line) → atMost c qs ≡ line
-unfolding atMost
+    → ((i : ℕ) → i < length qs → le (getD qs i nan) c ≡ leb (suc i) line) → countAtMost c qs ≡ line
+unfolding countAtMost
 count-up c [] line h g = omega arith
 count-up c (q ∷ qs) zero h g =
     rw (g 0 (zero-lt-suc (length qs)))

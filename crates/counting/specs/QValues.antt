@@ -39,9 +39,9 @@ unfoldable pub qValues : List ℤ → List Float
 qValues labels = runningMinimum (ratios labels)
 
 -- how many of the numbers are at most c
-unfoldable pub atMost : Float → List Float → ℕ
-atMost c [] = 0
-atMost c (q ∷ qs) = cond (le q c) (suc (atMost c qs)) (atMost c qs)
+unfoldable pub countAtMost : Float → List Float → ℕ
+countAtMost c [] = 0
+countAtMost c (q ∷ qs) = cond (le q c) (suc (countAtMost c qs)) (countAtMost c qs)
 
 -- how many targets have a number of at most c
 unfoldable pub targetsAtMost : Float → List ℤ → List Float → ℕ

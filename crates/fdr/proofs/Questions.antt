@@ -23,15 +23,15 @@ pub assign-ready : (t : Table) (bins : ℕ) (slots : List ℕ) (labels keys spar
 assign-ready t bins slots labels keys spare q e =
     let n = length (t .forward) in
     let rows = length slots in
-    let one = met (tableShort t && (leb rows longest && leb labels longest)) TooLong _ e in
-    let two = met (tableFits t && ((eqb labels rows && eqb q rows) && (eqb keys (2 * n) && eqb spare (2 * n)))) WrongLength _ (one .1) in
-    let three = met (inRange bins) OutOfRange _ (two .1) in
-    let short = both (tableShort t) _ (one .0) .0 in
-    let fits = both (tableFits t) _ (two .0) in
+    let first = met (tableShort t && (leb rows longest && leb labels longest)) TooLong _ e in
+    let second = met (tableFits t && ((eqb labels rows && eqb q rows) && (eqb keys (2 * n) && eqb spare (2 * n)))) WrongLength _ (first .1) in
+    let third = met (inRange bins) OutOfRange _ (second .1) in
+    let short = both (tableShort t) _ (first .0) .0 in
+    let fits = both (tableFits t) _ (second .0) in
     let columns = both (eqb labels rows && eqb q rows) (eqb keys (2 * n) && eqb spare (2 * n)) (fits .1) in
     let results = both (eqb labels rows) (eqb q rows) (columns .0) in
     let working = both (eqb keys (2 * n)) (eqb spare (2 * n)) (columns .1) in
-    let range = both (leb 1 bins) (leb bins 65536) (three .0) in
+    let range = both (leb 1 bins) (leb bins 65536) (third .0) in
     record {
       pack = record {
         short = leb-true n longest (both (leb n longest) _ short .0);
@@ -43,5 +43,5 @@ assign-ready t bins slots labels keys spare q e =
       q-length = eqb-true q rows (results .1);
       some = leb-true 1 bins (range .0);
       few = leb-true bins 65536 (range .1);
-      slots-allowed = met (allAllowed n slots) NoSuchSlot Accepted (three .1) .0;
+      slots-allowed = met (allAllowed n slots) NoSuchSlot Accepted (third .1) .0;
     }

@@ -77,8 +77,8 @@ leading n z e = go (lt-or-ge z 53)
     some : (q : ℕ) → 53 ≤ z → 4503599627370496 ≤ q → q < 9007199254740992 → z - 53 + q / 4503599627370496 ≡ z - 52
     some q h l u = omega arith
 
-    whole : 53 ≤ z → 52 + (z - 53) < z
-    whole h = omega arith
+    within : 53 ≤ z → 52 + (z - 53) < z
+    within h = omega arith
 
     go : (z < 53) ⊎ (53 ≤ z) → z - 53 + n / 2 ^ (z - 53) / 4503599627370496 ≡ z - 52
     go (inl h) =
@@ -91,7 +91,7 @@ leading n z e = go (lt-or-ge z 53)
     go (inr h) =
         some (n / 2 ^ (z - 53)) h
         (le-div-iff-mul-le (pow-pos (z - 53)) .1
-        (le-trans (le-of-eq (sym (pow-add 2 52 (z - 53)))) (size-reaches n (52 + (z - 53)) (subst (λ (x : ℕ). 52 + (z - 53) < x) (sym e) (whole h)))))
+        (le-trans (le-of-eq (sym (pow-add 2 52 (z - 53)))) (size-reaches n (52 + (z - 53)) (subst (λ (x : ℕ). 52 + (z - 53) < x) (sym e) (within h)))))
         upper
 
 field : (k q : ℕ) → (0 + k * 4503599627370496 + q) / 4503599627370496 ≡ k + q / 4503599627370496

@@ -108,11 +108,11 @@ record Whole (f : Format) (s : Bool) (q : ℕ) : Type 0 where
   value : HasValue (ofInt f (signed s q)) sign q 1
   alike : (d : ℕ) → T (Bool·beq sign s || eqb (q * d) 0)
 
-whole : (f : Format) (s : Bool) (q : ℕ) → q ≤ 2 ^ prec f → Whole f s q
+whole-number : (f : Format) (s : Bool) (q : ℕ) → q ≤ 2 ^ prec f → Whole f s q
 unfolding ofInt
-whole f false q h = record { sign = false; value = round-whole f false q h; alike = λ d. tt }
-whole f true zero h = record { sign = false; value = round-whole f false 0 h; alike = λ d. rw zero-mul tt }
-whole f true (suc k) h = record { sign = true; value = round-whole f true (suc k) h; alike = λ d. tt }
+whole-number f false q h = record { sign = false; value = round-whole f false q h; alike = λ d. tt }
+whole-number f true zero h = record { sign = false; value = round-whole f false 0 h; alike = λ d. rw zero-mul tt }
+whole-number f true (suc k) h = record { sign = true; value = round-whole f true (suc k) h; alike = λ d. tt }
 
 in-float : (f : Format) (s : Bool) (q : ℕ) → q ≤ 2 ^ prec f → T (inFloat f (signed s q))
 unfolding inFloat
@@ -153,30 +153,30 @@ module _ (f : Format) (m : ℕ) (e : ℤ) (q : ℕ) (is : m * up e / down e ≡ 
   at-most = rw (← is) (omega (arith, div-mul-le-self (m * up e) (down e)))
 
   lt-is : (s : Bool)
-      → lt (ofInt f (signed s q)) (fin s m e) ≡ below (whole f s q fine .sign) (q * down e) s (m * up e * 1)
+      → lt (ofInt f (signed s q)) (fin s m e) ≡ below (whole-number f s q fine .sign) (q * down e) s (m * up e * 1)
   lt-is s =
-      let w = whole f s q fine in
+      let w = whole-number f s q fine in
       lt-at (w .sign) s q 1 (m * up e) (down e) (lit≤ tt) (down-pos e) (ofInt f (signed s q)) (fin s m e) (w .value) (refl, refl)
 
   eq-is : (s : Bool)
-      → eq (ofInt f (signed s q)) (fin s m e) ≡ level (whole f s q fine .sign) (q * down e) s (m * up e * 1)
+      → eq (ofInt f (signed s q)) (fin s m e) ≡ level (whole-number f s q fine .sign) (q * down e) s (m * up e * 1)
   eq-is s =
-      let w = whole f s q fine in
+      let w = whole-number f s q fine in
       eq-at (w .sign) s q 1 (m * up e) (down e) (lit≤ tt) (down-pos e) (ofInt f (signed s q)) (fin s m e) (w .value) (refl, refl)
 
   differ : (s : Bool) → eq (ofInt f (signed s q)) (fin s m e) ≡ false → q * down e ≡ m * up e * 1 → ⊥
   differ s h k =
-      let w = whole f s q fine in
+      let w = whole-number f s q fine in
       true≢false (sym (level-same (w .sign) s (q * down e) (m * up e * 1) (w .alike (down e)) k) ∙ sym (eq-is s) ∙ h)
 
   less : (s : Bool) → lt (ofInt f (signed s q)) (fin s m e) ≡ true → ofInt f (signed s q) ≡ floored f (fin s m e)
   unfolding ofInt
   less false h = rw (← is) (sym (floored-is f false m e))
-  less true h = absurd (not-below (whole f true q fine .sign) (q * down e) (m * up e * 1) at-most (sym (lt-is true) ∙ h))
+  less true h = absurd (not-below (whole-number f true q fine .sign) (q * down e) (m * up e * 1) at-most (sym (lt-is true) ∙ h))
 
   more : (s : Bool) → eq (ofInt f (signed s q)) (fin s m e) ≡ false → lt (ofInt f (signed s q)) (fin s m e) ≡ false
       → sub f (ofInt f (signed s q)) (fin false 1 (pos 0)) ≡ floored f (fin s m e)
-  more false h l = absurd (differ false h (not-above (whole f false q fine .sign) (q * down e) (m * up e * 1) at-most (sym (lt-is false) ∙ l)))
+  more false h l = absurd (differ false h (not-above (whole-number f false q fine .sign) (q * down e) (m * up e * 1) at-most (sym (lt-is false) ∙ l)))
   more true h l =
       let over : m * up e < q * down e + down e = rw is at (lt-div-mul-add {a = m * up e} (down-pos e)) in
       let under : q * down e < m * up e * 1 = lt-of-le-ne at-most (differ true h) in
@@ -186,7 +186,7 @@ module _ (f : Format) (m : ℕ) (e : ℤ) (q : ℕ) (is : m * up e / down e ≡ 
   below-limit : (s : Bool) → T (fits f (fin s m e)) → Cut f (fin s m e) (signed s q)
   below-limit s t = record {
     exact = in-float f s q fine;
-    same = λ h. sym (fixed f s m e q t (level-eq (whole f s q fine .sign) s (q * down e) (m * up e * 1) (sym (eq-is s) ∙ h) ∙ mul-one (m * up e)));
+    same = λ h. sym (fixed f s m e q t (level-eq (whole-number f s q fine .sign) s (q * down e) (m * up e * 1) (sym (eq-is s) ∙ h) ∙ mul-one (m * up e)));
     less = less s;
     more = more s;
   }
@@ -287,7 +287,7 @@ part-greatest false false a d n D h = omega (arith, le-div-iff-mul-le {x = n} {y
 pub record Floor (x r : Float) : Type 0 where
   pub sign : Bool
   pub size : ℕ
-  pub whole : HasValue r sign size 1
+  pub is-whole : HasValue r sign size 1
   pub not-above : T (le r x)
   pub greatest : (y : Float) (t : Bool) (n : ℕ) → HasValue y t n 1 → T (le y x) → T (le y r)
 
@@ -296,7 +296,7 @@ pub floor-is : (f : Format) (s : Bool) (m : ℕ) (e : ℤ) → T (fits f (fin s 
 floor-is f s m e t = record {
   sign = s;
   size = part s (m * up e) (down e);
-  whole = floor-value f s m e t;
+  is-whole = floor-value f s m e t;
   not-above = rw (le-at s s (part s (m * up e) (down e)) 1 (m * up e) (down e) (lit≤ tt) (down-pos e) (floored f (fin s m e)) (fin s m e)
       (floor-value f s m e t) (refl, refl)) (le→leb _ _ (part-under s (m * up e) (down e) (down-pos e)));
   greatest = λ y u n v h.
@@ -310,7 +310,7 @@ floor-is f s m e t = record {
 pub record Ceil (x r : Float) : Type 0 where
   pub sign : Bool
   pub size : ℕ
-  pub whole : HasValue r sign size 1
+  pub is-whole : HasValue r sign size 1
   pub not-below : T (le x r)
   pub least : (y : Float) (t : Bool) (n : ℕ) → HasValue y t n 1 → T (le x y) → T (le r y)
 
@@ -318,11 +318,11 @@ floor-turned : (x g : Float) (s : Bool) (a c : ℕ) → 0 < c → HasValue x s a
 floor-turned x g s a c C v w = record {
   sign = not (w .sign);
   size = w .size;
-  whole = neg-value g (w .sign) (w .size) 1 (w .whole);
+  is-whole = neg-value g (w .sign) (w .size) 1 (w .is-whole);
   not-below = subst (λ (z : Float). T (le z (neg g))) (neg-neg x)
-      (rw (neg-le (not s) (w .sign) a c (w .size) 1 C (lit≤ tt) (neg x) g (neg-value x s a c v) (w .whole)) (w .not-above));
+      (rw (neg-le (not s) (w .sign) a c (w .size) 1 C (lit≤ tt) (neg x) g (neg-value x s a c v) (w .is-whole)) (w .not-above));
   least = λ y u n k h. subst (λ (z : Float). T (le (neg g) z)) (neg-neg y)
-      (rw (neg-le (w .sign) (not u) (w .size) 1 n 1 (lit≤ tt) (lit≤ tt) g (neg y) (w .whole) (neg-value y u n 1 k))
+      (rw (neg-le (w .sign) (not u) (w .size) 1 n 1 (lit≤ tt) (lit≤ tt) g (neg y) (w .is-whole) (neg-value y u n 1 k))
       (w .greatest (neg y) (not u) n (neg-value y u n 1 k) (rw (neg-le u s n 1 a c (lit≤ tt) C y x k v) h)));
 }
 

@@ -56,7 +56,7 @@ counting-step {A} {p} {l} {i} {n} d b w h e =
     let is = w .is in
     let more : howMany p (drop i l) ≡ cond (p (getD l i d)) 1 0 + howMany p (drop (suc i) l) = ap (howMany p) (drop-cons l i d h) in
     let bit : boolByte b ≡ cond (p (getD l i d)) 1 0 = byte-is b ∙ ap (λ (x : Bool). cond x 1 0) e in
-    let one : boolByte b ≤ 1 = byte-most b in
+    let bound : boolByte b ≤ 1 = byte-most b in
     let next : howMany p (drop (i + 1) l) ≡ howMany p (drop (suc i) l) = rw add-one in
     record { high = omega arith; few = omega arith; is = omega arith }
 
@@ -65,7 +65,7 @@ pub counting-fits : {A : Type 0} {p : A → Bool} {l : List A} {i n : ℕ} (b : 
     → length l < 2 ^ 64 → n + boolByte b < 2 ^ 64
 counting-fits {n = n} b w h k =
     let few = w .few in
-    let one = byte-most b in
+    let bound = byte-most b in
     omega arith
 
 pub counting-done : {A : Type 0} {p : A → Bool} {l : List A} {i n : ℕ} → Counting p l i n → length l ≤ i

@@ -14,8 +14,8 @@ use Rattle.gauss.specs.Solutions.{blank, solvedWith, joined, values, eli
 use Rattle.gauss.proofs.Meaning.{unread}
 
 -- 5.0
-abbrev pub five : Float
-five = ofBits binary64 4617315517961601024
+abbrev pub f64Five : Float
+f64Five = ofBits binary64 4617315517961601024
 
 only : (P : ℕ → Type 0) → P 0 → (i : ℕ) → i < 1 → P i
 only P p i h = subst P (zero-is i h) p
@@ -32,15 +32,15 @@ alone left right x y l r =
     only (λ i. entry left i j ≡ entry ((x ∷ []) ∷ []) i j) (only (λ j. entry left 0 j ≡ entry ((x ∷ []) ∷ []) 0 j) l j g) i h)
     (only (λ i. getD right i nan ≡ getD (y ∷ []) i nan) r)
 
-computed : (solution ((neg small ∷ []) ∷ []) (five ∷ []) 1 ≡ solvedWith (five ∷ replicate 19 f64Zero))
+computed : (solution ((neg small ∷ []) ∷ []) (f64Five ∷ []) 1 ≡ solvedWith (f64Five ∷ replicate 19 f64Zero))
     × ((y : Float) → solution ((nan ∷ []) ∷ []) (y ∷ []) 1 ≡ blank Unsolved)
 unfolding solution firstAnswer attempt joined values eliminated epsilon diagonalFilled leftSolved echeloned pivotRow clearedBelow reduced rowDivided backfilled clearedAbove rowSubtracted steps forRangeDown first every neg add sub mul div eq le lt round ofBits
 computed = (refl, λ y. refl)
 
 -- "system [−1E-8], right side 5: answer 5, since the entry becomes 0"
-pub minus-small : (left : Matrix) (right : Vector) → entry left 0 0 ≡ neg small → getD right 0 nan ≡ five
-    → solution left right 1 ≡ solvedWith (five ∷ replicate 19 f64Zero)
-minus-small left right l r = alone left right (neg small) five l r ∙ computed .0
+pub minus-small : (left : Matrix) (right : Vector) → entry left 0 0 ≡ neg small → getD right 0 nan ≡ f64Five
+    → solution left right 1 ≡ solvedWith (f64Five ∷ replicate 19 f64Zero)
+minus-small left right l r = alone left right (neg small) f64Five l r ∙ computed .0
 
 -- "system [NaN]: 7", whatever the right side
 pub not-a-number : (left : Matrix) (right : Vector) → entry left 0 0 ≡ nan → solution left right 1 ≡ blank Unsolved
@@ -54,7 +54,7 @@ sizes-refused left right = (refl, refl)
 
 -- ---- pivots: the largest signed entry, and the last among equals
 
-pub signed : pivotRow 2 0 0 ((f64One ∷ []) ∷ (neg five ∷ []) ∷ []) ≡ 0
+pub signed : pivotRow 2 0 0 ((f64One ∷ []) ∷ (neg f64Five ∷ []) ∷ []) ≡ 0
 unfolding pivotRow steps le neg ofBits
 signed = refl
 

@@ -34,10 +34,10 @@ passed : (rows : ℕ) (match : Bool) (bins : ℕ)
     → ifNot (leb rows longest) TooLong (ifNot match WrongLength (ifNot (inRange bins) OutOfRange Accepted)) ≡ Accepted
     → Passed rows match bins
 passed rows match bins e =
-    let one = met (leb rows longest) TooLong _ e in
-    let two = met match WrongLength _ (one .1) in
-    let three = met (inRange bins) OutOfRange Accepted (two .1) in
-    record { short = leb→le rows longest (rw (one .0) tt); matches = two .0; range = in-range bins (three .0) }
+    let first = met (leb rows longest) TooLong _ e in
+    let second = met match WrongLength _ (first .1) in
+    let third = met (inRange bins) OutOfRange Accepted (second .1) in
+    record { short = leb→le rows longest (rw (first .0) tt); matches = second .0; range = in-range bins (third .0) }
 
 pub bin-scores-passed : (bins scores column : ℕ) → binScoresAsked bins scores column ≡ Accepted
     → ((1 ≤ bins) × (bins ≤ 65536)) × (column ≡ bins)
@@ -53,8 +53,8 @@ errors-passed bins scores errors e =
 
 pub log-errors-passed : (logs errors : ℕ) → logErrorsAsked logs errors ≡ Accepted → errors ≡ logs
 log-errors-passed logs errors e =
-    let one = met (leb logs longest) TooLong _ e in
-    eqb-true errors logs (met (eqb errors logs) WrongLength Accepted (one .1) .0)
+    let first = met (leb logs longest) TooLong _ e in
+    eqb-true errors logs (met (eqb errors logs) WrongLength Accepted (first .1) .0)
 
 -- of a builder and three columns, with counts of the list
 module _ (builder : Builder) (listed decoys total : ℕ) (decoyDensity targetDensity bins : List Float) where
@@ -66,13 +66,13 @@ module _ (builder : Builder) (listed decoys total : ℕ) (decoyDensity targetDen
       let n = builder .bins in
       let p = passed listed (eqb (length decoyDensity) n && eqb (length targetDensity) n && eqb (length bins) n) n e in
       let short = p .short in
-      let three = both (eqb (length decoyDensity) n && eqb (length targetDensity) n) (eqb (length bins) n) (p .matches) in
-      let two = both (eqb (length decoyDensity) n) (eqb (length targetDensity) n) (three .0) in
+      let third = both (eqb (length decoyDensity) n && eqb (length targetDensity) n) (eqb (length bins) n) (p .matches) in
+      let second = both (eqb (length decoyDensity) n) (eqb (length targetDensity) n) (third .0) in
       record {
         some = p .range .0;
-        decoy-length = eqb-true (length decoyDensity) n (two .0);
-        target-length = eqb-true (length targetDensity) n (two .1);
-        bins-length = eqb-true (length bins) n (three .1);
+        decoy-length = eqb-true (length decoyDensity) n (second .0);
+        target-length = eqb-true (length targetDensity) n (second .1);
+        bins-length = eqb-true (length bins) n (third .1);
         decoys-few = h;
         total-few = omega arith;
       }

@@ -14,7 +14,7 @@ use Rattle.columns.specs.declared.Counted.{Counted}
 use Rattle.columns.specs.declared.Counted.the-variants.{Passing, Refused}
 use Rattle.columns.specs.declared.Refusal.the-variants.{TooLong, WrongLength}
 use Rattle.floats.specs.Ratio.{oneIn}
-use Rattle.counting.specs.QValues.{qValues, atMost}
+use Rattle.counting.specs.QValues.{qValues, countAtMost}
 
 -- what the call answers, and the column of q-values afterwards
 pub record SpectrumRun : Type 0 where
@@ -32,5 +32,5 @@ spectrumAsked labels q = ifNot (leb labels longest) TooLong (ifNot (eqb q labels
 unfoldable pub spectrumQValue : List ℤ → List Float → SpectrumRun
 spectrumQValue labels q =
     answered (spectrumAsked (length labels) (length q))
-    (spectrumRun (Passing (atMost (oneIn 100) (qValues labels))) (qValues labels))
+    (spectrumRun (Passing (countAtMost (oneIn 100) (qValues labels))) (qValues labels))
     (λ r. spectrumRun (Refused r) (filled nan q))

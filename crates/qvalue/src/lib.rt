@@ -10,7 +10,7 @@ ghost use lib.Ieee.{isNan};
 ghost use Rattle.floats.specs.MinMax.{minNumber};
 ghost use Rattle.columns.specs.Refusals.{longest};
 ghost use Rattle.floats.specs.Ratio.{oneIn};
-ghost use Rattle.counting.specs.QValues.{ratios, runningMinimum, atMost};
+ghost use Rattle.counting.specs.QValues.{ratios, runningMinimum, countAtMost};
 ghost use Rattle.qvalue.specs.Spectrum.{spectrumAsked, spectrumRun, spectrumQValue};
 use columns::Counted;
 use columns::Outcome;
@@ -44,7 +44,7 @@ fn lower(low: f32, next: f32) -> f32
 
 // The running minimum from the bottom, and how many are at most 0.01.
 fn take_minima(q: &mut [f32]) -> usize
-    ensures count { λ r. ⌜ r ≡ atMost (oneIn 100) (runningMinimum (now (q .entry))) ⌝ }
+    ensures count { λ r. ⌜ r ≡ countAtMost (oneIn 100) (runningMinimum (now (q .entry))) ⌝ }
     ensures column { λ _. ⌜ now (q .exit) ≡ runningMinimum (now (q .entry)) ⌝ }
 {
     let mut q_min: f32 = 1.0;

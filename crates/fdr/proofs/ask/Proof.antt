@@ -27,50 +27,50 @@ returns c = rw (← c .before .table-short .ensures, not-true (question-1 (c .be
 
 returns-2 : tie.Need-returns-2
 returns-2 c =
-    let one = c .before .before in
-    rw (← one .before .table-short .ensures, not-false (question-1 (one .before)) (one .if1 .left), ← c .before .table-fits .ensures, not-true (question-2 (c .before)) (c .if2 .taken))
+    let first = c .before .before in
+    rw (← first .before .table-short .ensures, not-false (question-1 (first .before)) (first .if1 .left), ← c .before .table-fits .ensures, not-true (question-2 (c .before)) (c .if2 .taken))
 
 returns-3 : tie.Need-returns-3
 returns-3 c =
-    let two = c .before .before in
-    let one = two .before .before in
+    let second = c .before .before in
+    let first = second .before .before in
     rw (
-      ← one .before .table-short .ensures,
-      not-false (question-1 (one .before)) (one .if1 .left),
-      ← two .before .table-fits .ensures,
-      not-false (question-2 (two .before)) (two .if2 .left),
+      ← first .before .table-short .ensures,
+      not-false (question-1 (first .before)) (first .if1 .left),
+      ← second .before .table-fits .ensures,
+      not-false (question-2 (second .before)) (second .if2 .left),
       ← c .before .in-range .ensures,
       not-true (c .before .in-range .result) (c .if3 .taken),
     )
 
 returns-4 : tie.Need-returns-4
 returns-4 c =
-    let three = c .before .before in
-    let two = three .before .before in
-    let one = two .before .before in
+    let third = c .before .before in
+    let second = third .before .before in
+    let first = second .before .before in
     rw (
-      ← one .before .table-short .ensures,
-      not-false (question-1 (one .before)) (one .if1 .left),
-      ← two .before .table-fits .ensures,
-      not-false (question-2 (two .before)) (two .if2 .left),
-      ← three .before .in-range .ensures,
-      not-false (three .before .in-range .result) (three .if3 .left),
+      ← first .before .table-short .ensures,
+      not-false (question-1 (first .before)) (first .if1 .left),
+      ← second .before .table-fits .ensures,
+      not-false (question-2 (second .before)) (second .if2 .left),
+      ← third .before .in-range .ensures,
+      not-false (third .before .in-range .result) (third .if3 .left),
       ← c .before .slots-allowed .ensures,
       not-true (c .before .slots-allowed .result) (c .if4 .taken),
     )
 
 returns-5 : tie.Need-returns-5
 returns-5 c =
-    let three = c .before .before in
-    let two = three .before .before in
-    let one = two .before .before in
+    let third = c .before .before in
+    let second = third .before .before in
+    let first = second .before .before in
     rw (
-      ← one .before .table-short .ensures,
-      not-false (question-1 (one .before)) (one .if1 .left),
-      ← two .before .table-fits .ensures,
-      not-false (question-2 (two .before)) (two .if2 .left),
-      ← three .before .in-range .ensures,
-      not-false (three .before .in-range .result) (three .if3 .left),
+      ← first .before .table-short .ensures,
+      not-false (question-1 (first .before)) (first .if1 .left),
+      ← second .before .table-fits .ensures,
+      not-false (question-2 (second .before)) (second .if2 .left),
+      ← third .before .in-range .ensures,
+      not-false (third .before .in-range .result) (third .if3 .left),
       ← c .before .slots-allowed .ensures,
       not-false (c .before .slots-allowed .result) (c .if4 .left),
     )

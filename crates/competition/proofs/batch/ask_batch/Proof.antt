@@ -13,49 +13,49 @@ returns c =
 
 returns-2 : tie.Need-returns-2
 returns-2 c =
-    let one = c .before .before .before in
-    let b = one .before .before .batch-short in
-    let t = one .before .table-short in
+    let first = c .before .before .before in
+    let b = first .before .before .batch-short in
+    let t = first .before .table-short in
     let bf = c .before .before .batch-fits in
     let tf = c .before .table-fits in
-    rw (← b .ensures, ← t .ensures, not-false (b .result && t .result) (one .if1 .left), ← bf .ensures, ← tf .ensures, not-true (bf .result && tf .result) (c .if2 .taken))
+    rw (← b .ensures, ← t .ensures, not-false (b .result && t .result) (first .if1 .left), ← bf .ensures, ← tf .ensures, not-true (bf .result && tf .result) (c .if2 .taken))
 
 returns-3 : tie.Need-returns-3
 returns-3 c =
-    let two = c .before .before in
-    let one = two .before .before .before in
-    let b = one .before .before .batch-short in
-    let t = one .before .table-short in
-    let bf = two .before .before .batch-fits in
-    let tf = two .before .table-fits in
+    let second = c .before .before in
+    let first = second .before .before .before in
+    let b = first .before .before .batch-short in
+    let t = first .before .table-short in
+    let bf = second .before .before .batch-fits in
+    let tf = second .before .table-fits in
     let s = c .before .slots-allowed in
     rw (
       ← b .ensures,
       ← t .ensures,
-      not-false (b .result && t .result) (one .if1 .left),
+      not-false (b .result && t .result) (first .if1 .left),
       ← bf .ensures,
       ← tf .ensures,
-      not-false (bf .result && tf .result) (two .if2 .left),
+      not-false (bf .result && tf .result) (second .if2 .left),
       ← s .ensures,
       not-true (s .result) (c .if3 .taken),
     )
 
 returns-4 : tie.Need-returns-4
 returns-4 c =
-    let two = c .before .before in
-    let one = two .before .before .before in
-    let b = one .before .before .batch-short in
-    let t = one .before .table-short in
-    let bf = two .before .before .batch-fits in
-    let tf = two .before .table-fits in
+    let second = c .before .before in
+    let first = second .before .before .before in
+    let b = first .before .before .batch-short in
+    let t = first .before .table-short in
+    let bf = second .before .before .batch-fits in
+    let tf = second .before .table-fits in
     let s = c .before .slots-allowed in
     rw (
       ← b .ensures,
       ← t .ensures,
-      not-false (b .result && t .result) (one .if1 .left),
+      not-false (b .result && t .result) (first .if1 .left),
       ← bf .ensures,
       ← tf .ensures,
-      not-false (bf .result && tf .result) (two .if2 .left),
+      not-false (bf .result && tf .result) (second .if2 .left),
       ← s .ensures,
       not-false (s .result) (c .if3 .left),
     )

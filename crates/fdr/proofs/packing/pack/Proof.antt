@@ -21,13 +21,13 @@ loop-holds c = packing-start _ _ (c .before .before .before .before .before .pre
 
 loop-again : tie.Need-loop-again Inv-loop μ-loop
 loop-again c =
-    let two = c .before .before in
-    let one = two .before .before .before .before .before in
-    let reverse = one .before .before .before in
+    let second = c .before .before in
+    let first = second .before .before .before .before .before in
+    let reverse = first .before .before .before in
     let forward = reverse .before .before .before in
     packing-step _ (forward .before .before .before .before .loop .inv) (search needs) (forward .before .payload .ensures) (reverse .before .payload2 .ensures)
-    _ _ _ (forward .key .ensures) (one .put .ensures .0) (one .put .ensures .1)
-    _ _ _ (reverse .key2 .ensures) (two .put2 .ensures .0) (two .put2 .ensures .1) (two .put2 .kept .0 ∙ one .put .kept .0)
+    _ _ _ (forward .key .ensures) (first .put .ensures .0) (first .put .ensures .1)
+    _ _ _ (reverse .key2 .ensures) (second .put2 .ensures .0) (second .put2 .ensures .1) (second .put2 .kept .0 ∙ first .put .kept .0)
 
 returns : tie.Need-returns Inv-loop μ-loop
 returns c =

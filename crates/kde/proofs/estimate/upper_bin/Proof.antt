@@ -8,7 +8,7 @@ use Rattle.kde.proofs.estimate.upper_bin.Statement.{statement}
 use Rattle.kde.proofs.estimate.upper_bin.Tie as tie
 
 add-result : tie.Need-add-result
-add-result c = let one = byte-most (ltb (c .args .bin-lo) (c .args .last)) in record { fits = omega arith }
+add-result c = let bound = byte-most (ltb (c .args .bin-lo) (c .args .last)) in record { fits = omega arith }
 
 returns : tie.Need-returns
 returns c = upper-bin (c .args .bin-lo) (c .args .last) (search needs)
