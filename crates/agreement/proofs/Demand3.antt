@@ -3,18 +3,19 @@
 -- where they accept.
 use mathlib.Core.Path.{_≡_, refl, sym, ap, ap₂, _∙_, subst}
 use mathlib.Core.Logic.{inl, inr}
-use mathlib.Core.List.{List, [], _∷_}
-use mathlib.Core.Bool.{Bool, true, false, cond}
+use mathlib.Core.List.{List, [], _∷_, map}
+use mathlib.Core.Bool.{Bool, true, false, cond, true≢false}
 use Prim.Native.Nat.{ℕ, zero, suc, _≤_, _<_, max}
-use native.Mathlib.Nat.{zero-lt-suc}
+use native.Mathlib.Nat.{zero-lt-suc, eq-or-lt-of-le}
 use native.Mathlib.Numerals.{add-one}
 use native.Mathlib.Omega.{arith}
 use lib.Dec.{leb, leb·zero, leb·suc-suc, leb·suc-zero}
-use lib.IntN.{ℤ}
+use lib.IntN.{ℤ, pos}
 use lib.ListN.{length, getD, take}
 use lib.Ieee.{Float, nan, le}
 use Rattle.folds.specs.Lists.{filled}
-use Rattle.folds.proofs.Writing.{tabulated-at}
+use Rattle.folds.proofs.Tests.{lt-or-ge}
+use Rattle.folds.proofs.Writing.{tabulated-at, tabulated-map, all-at}
 use Rattle.columns.specs.Refusals.{longest, answered, RankedRun, rankedRun}
 use Rattle.columns.specs.declared.Outcome.{Outcome}
 use Rattle.columns.specs.declared.Outcome.the-variants as outcome
@@ -32,12 +33,14 @@ use Rattle.qvalue.specs.Spectrum.{SpectrumRun, spectrumRun, spectrumAsked, spec
 use Rattle.qvalue.proofs.Questions.{spectrum-lengths}
 use Rattle.line_check.specs.Check.{perOf}
 use Rattle.line_check.proofs.Check.{wrong-row, right-answered, wrong-answered}
-use Rattle.ranking.specs.Ranking.{rankedRows, asRanked, rankOf}
-use Rattle.ranking.proofs.Places.{length-as-ranked, rank-below}
+use Rattle.ranking.specs.Ranking.{rankedRows, rankedOrder, asRanked, rankOf}
+use Rattle.ranking.proofs.Places.{length-as-ranked, length-order, order-in-bounds, rank-below}
+use Rattle.ranking.proofs.Places.{place-at-rank, rank-of-place, labels-in-order}
 use Rattle.precursor.specs.Precursors.{precursorAsked, precursorQ, pickedPrecursor}
+use Rattle.precursor.specs.Precursors.{orderAsked, OrderRun, orderRun, precursorOrder}
 use Rattle.precursor.specs.Inner.Ready.{PrecursorReady}
 use Rattle.precursor.proofs.Questions.{precursor-lengths}
-use Rattle.agreement.specs.Demand3.{OneRight, LastQualifying, LineCheck, Spectra, Precursors, Demand3}
+use Rattle.agreement.specs.Demand3.{OneRight, LastQualifying, OneLast, LineCheck, Spectra, Precursors, Order, Demand3}
 
 -- ---- lines
 
@@ -59,11 +62,39 @@ last-qualifying rate labels line = record {
   ];
 }
 
+-- of two such rows neither is the later one: no row after the other qualifies, and the line is not after it
+none-later : (rate : ℕ) (labels : List ℤ) (line a b : ℕ) → LastQualifying rate labels line a
+    → LastQualifying rate labels line b → a < b → ⊥
+none-later rate labels line a b p q h = elim (q .which) [
+  | inl e ↦ elim (p .which) [ | inl f ↦ omega (arith, e, f, h) | inr f ↦ omega (arith, e, f .0, h) ]
+  | inr g ↦ true≢false (sym (g .2) ∙ p .none-after b h (g .1))
+]
+
+last-only : (rate : ℕ) (labels : List ℤ) (line other : ℕ) → LastQualifying rate labels line other
+    → other ≡ max line (rightLine rate labels)
+last-only rate labels line other w =
+    let row = max line (rightLine rate labels) in
+    let is = last-qualifying rate labels line in
+    elim (lt-or-ge other row) [
+      | inl h ↦ absurd (none-later rate labels line other row w is h)
+      | inr h ↦ elim (eq-or-lt-of-le h) [
+        | inl e ↦ sym e
+        | inr g ↦ absurd (none-later rate labels line row other is w g)
+      ]
+    ]
+
+abbrev one-last : (rate : ℕ) (labels : List ℤ) (line : ℕ) → OneLast rate labels line
+one-last rate labels line = record {
+  row = max line (rightLine rate labels);
+  last = last-qualifying rate labels line;
+  only = last-only rate labels line;
+}
+
 check : (rate : ℕ) (labels : List ℤ) (line : ℕ) → length labels ≤ longest → line ≤ length labels
     → LineCheck rate labels line
 check rate labels line s l = record {
   if-right = right-answered rate labels line s l;
-  if-wrong = λ n. (max line (rightLine rate labels), last-qualifying rate labels line, wrong-answered rate labels line s l n);
+  if-wrong = λ n. (one-last rate labels line, wrong-answered rate labels line s l n);
 }
 
 -- ---- spectra
@@ -170,6 +201,48 @@ module _ (labels : List ℤ) (scores : List Float) (keys spare : List ℕ) (q : 
         ∙ ranked-rows (rankOf (rankedRows scores) place) i;
   }
 
+-- ---- the order of precursors
+
+-- an entry of a list to which a function is applied
+map-at : {A : Type 0} (g : ℕ → A) (d : A) (l : List ℕ) (i : ℕ) → i < length l → getD (map g l) i d ≡ g (getD l i 0)
+map-at {A} g d l i h =
+    ap (λ (x : List A). getD x i d) (sym (tabulated-map g 0 l)) ∙ tabulated-at (λ k. g (getD l k 0)) (length l) i d h
+
+order-accepted : (o : Outcome) (keys spare order blanks : List ℕ)
+    → answered o (orderRun Accepted keys spare order) (λ r. orderRun (outcome.Refused r) keys spare blanks) .answer
+    ≡ Accepted
+    → o ≡ Accepted
+order-accepted Accepted keys spare order blanks e = refl
+order-accepted (outcome.Refused r) keys spare order blanks e = let z : _≡_ {A = ℕ} 0 1 = cc in absurd (omega arith)
+
+-- the order of a list, whatever the columns held
+in-order : (labels : List ℤ) (scores : List Float) → Order labels scores (rankedOrder scores)
+in-order labels scores = record {
+  as-long = length-order scores;
+  ranked = rank-below scores;
+  distinct = λ place other h g e.
+      sym (place-at-rank scores place 0 h) ∙ ap (λ (rank : ℕ). getD (rankedOrder scores) rank 0) e ∙ place-at-rank scores other 0 g;
+  place-there = λ place h. place-at-rank scores place 0 h;
+  label-there = λ place h.
+      let rank = rankOf (rankedRows scores) place in
+      ap (λ (rows : List ℤ). getD rows rank (pos 0)) (sym (labels-in-order labels scores))
+      ∙ map-at (λ p. getD labels p (pos 0)) (pos 0) (rankedOrder scores) rank (omega (arith, rank-below scores place h, length-order scores))
+      ∙ ap (λ (p : ℕ). getD labels p (pos 0)) (place-at-rank scores place 0 h);
+  placed = λ rank h. (
+    all-at (λ p. p < length scores) 0 (rankedOrder scores) (order-in-bounds scores) rank (omega (arith, length-order scores)),
+    rank-of-place scores rank 0 h,
+  );
+  labels-in-order = labels-in-order labels scores;
+}
+
+precursor-order : (labels : List ℤ) (scores : List Float) (keys spare order : List ℕ)
+    → precursorOrder scores keys spare order .answer ≡ Accepted
+    → Order labels scores (precursorOrder scores keys spare order .order)
+unfolding precursorOrder
+precursor-order labels scores keys spare order a =
+    let e = order-accepted (orderAsked (length scores) (length keys) (length spare) (length order)) (filled 0 keys) (filled 0 spare) (rankedOrder scores) (filled 4294967295 order) a in
+    subst (λ (w : OrderRun). Order labels scores (w .order)) (sym (if-accepted _ _ e)) (in-order labels scores)
+
 -- ---- the theorem
 
 pub demand-3 : Demand3
@@ -178,4 +251,5 @@ demand-3 = record {
   line-check = λ rate. check (perOf rate);
   spectra = spectra;
   precursors = precursors;
+  order = precursor-order;
 }

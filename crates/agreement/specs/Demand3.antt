@@ -19,15 +19,16 @@
 -- to that line."
 use mathlib.Core.Path.{_≡_}
 use mathlib.Core.Logic.{_⊎_}
-use mathlib.Core.List.{List}
+use mathlib.Core.List.{List, map}
 use mathlib.Core.Bool.{true, false}
 use Prim.Native.Nat.{ℕ, suc, _≤_, _<_}
 use lib.Dec.{leb}
-use lib.IntN.{ℤ}
+use lib.IntN.{ℤ, pos}
 use lib.ListN.{length, getD, take}
 use lib.Ieee.{Float, nan, le}
 use Rattle.columns.specs.Refusals.{longest}
 use Rattle.columns.specs.declared.Counted.the-variants.{Passing}
+use Rattle.columns.specs.declared.Outcome.the-variants.{Accepted}
 use Rattle.floats.specs.Ratio.{oneIn}
 use Rattle.counting.specs.Labels.{targets}
 use Rattle.counting.specs.Lines.{qualifies, RightLine}
@@ -36,7 +37,7 @@ use Rattle.line_check.specs.Check.{perOf, countsAt, lineAnswer}
 use Rattle.line_check.specs.declared.Rate.{Rate}
 use Rattle.line_check.specs.declared.Line.the-variants.{Right, Wrong}
 use Rattle.ranking.specs.Ranking.{rankedRows, asRanked, rankOf}
-use Rattle.precursor.specs.Precursors.{pickedPrecursor}
+use Rattle.precursor.specs.Precursors.{pickedPrecursor, precursorOrder}
 
 -- exactly one line of a list is right
 pub record OneRight (rate : ℕ) (labels : List ℤ) : Type 0 where
@@ -50,11 +51,17 @@ pub record LastQualifying (rate : ℕ) (labels : List ℤ) (line row : ℕ) : Ty
   pub none-after : (later : ℕ) → row < later → later ≤ length labels → qualifies rate labels later ≡ false
   pub which : (row ≡ line) ⊎ ((line < row) × (row ≤ length labels) × (qualifies rate labels row ≡ true))
 
+-- exactly one row is that
+pub record OneLast (rate : ℕ) (labels : List ℤ) (line : ℕ) : Type 0 where
+  pub row : ℕ
+  pub last : LastQualifying rate labels line row
+  pub only : (other : ℕ) → LastQualifying rate labels line other → other ≡ row
+
 -- the check at a line from zero to the list's length: "right exactly when the line is right"; "Any other … wrong"
 pub record LineCheck (rate : ℕ) (labels : List ℤ) (line : ℕ) : Type 0 where
   pub if-right : RightLine rate labels line → lineAnswer rate labels line ≡ Right (countsAt labels line)
   pub if-wrong : (RightLine rate labels line → ⊥)
-      → (row : ℕ) × LastQualifying rate labels line row × (lineAnswer rate labels line ≡ Wrong (countsAt labels row))
+      → (one : OneLast rate labels line) × (lineAnswer rate labels line ≡ Wrong (countsAt labels (one .row)))
 
 -- the spectrum call, where it accepts, and the right line at one in 100; rows count from 1
 pub record Spectra (labels : List ℤ) (q : List Float) (count line : ℕ) : Type 0 where
@@ -68,6 +75,21 @@ pub record Precursors (labels : List ℤ) (scores : List Float) (q : List Float)
   pub rows : (place : ℕ) → place < length labels
       → le (getD q place nan) (oneIn 20) ≡ leb (suc (rankOf (rankedRows scores) place)) line
 
+-- The order call, where it accepts. Module 7: "a line of a precursor list counts its rows as ranked". Ranks count from
+-- 0, places too: each place of the list has a rank of its own, the order has that place there, and the list as ranked
+-- its label; and each rank has a place.
+pub record Order (labels : List ℤ) (scores : List Float) (order : List ℕ) : Type 0 where
+  pub as-long : length order ≡ length scores
+  pub ranked : (place : ℕ) → place < length scores → rankOf (rankedRows scores) place < length scores
+  pub distinct : (place other : ℕ) → place < length scores → other < length scores
+      → rankOf (rankedRows scores) place ≡ rankOf (rankedRows scores) other → place ≡ other
+  pub place-there : (place : ℕ) → place < length scores → getD order (rankOf (rankedRows scores) place) 0 ≡ place
+  pub label-there : (place : ℕ) → place < length scores
+      → getD (asRanked labels scores) (rankOf (rankedRows scores) place) (pos 0) ≡ getD labels place (pos 0)
+  pub placed : (rank : ℕ) → rank < length scores
+      → (getD order rank 0 < length scores) × (rankOf (rankedRows scores) (getD order rank 0) ≡ rank)
+  pub labels-in-order : map (λ place. getD labels place (pos 0)) order ≡ asRanked labels scores
+
 pub record Demand3 : Type 0 where
   pub one-right : (rate : Rate) (labels : List ℤ) → OneRight (perOf rate) labels
   pub line-check : (rate : Rate) (labels : List ℤ) (line : ℕ) → length labels ≤ longest → line ≤ length labels
@@ -78,3 +100,6 @@ pub record Demand3 : Type 0 where
       → let run = pickedPrecursor labels scores keys spare q in
       run .answer ≡ Passing count → line ≤ length (asRanked labels scores) → RightLine 20 (asRanked labels scores) line
       → Precursors labels scores (run .q) count line
+  pub order : (labels : List ℤ) (scores : List Float) (keys spare order : List ℕ)
+      → let run = precursorOrder scores keys spare order in
+      run .answer ≡ Accepted → Order labels scores (run .order)
