@@ -1,5 +1,12 @@
 /* The calls of libvayemuku.a. Each is proved to meet its definition; see docs/CLAIMS.md. The modules are those of
- * document 01. */
+ * document 01.
+ *
+ * Every call:
+ * - keeps no state, allocates nothing, and makes no system call. Calls may run in several threads at once, each on
+ *   columns of its own; columns that a call only reads (const) may be shared.
+ * - ends on every input, and needs at most STACK of stack: vayemuku_train the most, STACKTRAIN.
+ * - takes pointers that are aligned as their types are in C. A pointer to a column may be null where its length is 0;
+ *   pointers to arrays of twenty and to single numbers may not. */
 #ifndef VAYEMUKU_H
 #define VAYEMUKU_H
 
@@ -53,7 +60,8 @@ int32_t vayemuku_total_cmp_f32(float a, float b);
 /* The calls below take columns as a pointer and a length. All but vayemuku_score and vayemuku_log_error return 0, or
  * refuse: then they return the number of the question that is answered with no, each result column holds only blanks at
  * its own length (NaN, or 4294967295 for 32-bit whole numbers), working columns hold 0, and of the numbers given back
- * floats are NaN and the others 0. Columns must not overlap. */
+ * floats are NaN and the others 0. What a call writes must not overlap with anything else that it is given: columns,
+ * arrays and the numbers that pointers such as count or row point to. Columns that it only reads may overlap. */
 
 /* Module 2: a system of size 1 to 20, one right-hand column; entries past the size are not read. values gets the
  * answer, with 0 past the size, or twenty NaN. Refusals: 3 the size, 7 no eps solves. */
@@ -75,8 +83,9 @@ uint32_t vayemuku_score_rows(const double coefficients[20], const double *featur
                              size_t scores_len, float *narrowed, size_t narrowed_len);
 
 /* Module 4: posterior errors. An estimator is its least score, its step and its column of bins. sage's builder starts
- * with this many bins, monotonic. */
+ * with this many bins, monotonic; the call gives the same number, to languages that cannot read the macro. */
 #define VAYEMUKU_BINS 1000
+size_t vayemuku_default_bins(void);
 
 /* Step one: *min_score and *score_step get the least score and the step, and bin_scores the score of every bin, at
  * which the host takes its two densities. Refusals: 1 more than 16,777,215 scores, 2 bin_scores not `bin_count` long,
@@ -166,8 +175,8 @@ uint32_t vayemuku_picked_precursor(const int32_t *labels, size_t labels_len, con
 uint32_t vayemuku_precursor_order(const double *scores, size_t scores_len, uint64_t *keys, size_t keys_len,
                                   uint64_t *spare, size_t spare_len, uint32_t *order, size_t order_len);
 
-/* The ranking alone: keys in ascending order; spare is as long and holds 0 afterwards. Refusals: 1, 2; both columns
- * then hold 0. */
+/* The ranking alone: keys in ascending order; spare is as long and holds 0 afterwards. Refusals: 1, 2; the keys are then
+ * as they came. */
 uint32_t vayemuku_rank_keys(uint64_t *keys, size_t keys_len, uint64_t *spare, size_t spare_len);
 
 /* Module 7: whether a line of a ranked list is right, at one in 100 and at one in 20. *right gets 1 or 0; *row,
@@ -177,6 +186,21 @@ uint32_t vayemuku_check_line_100(const int32_t *labels, size_t labels_len, size_
                                  size_t *decoys_plus_one, size_t *targets);
 uint32_t vayemuku_check_line_20(const int32_t *labels, size_t labels_len, size_t line, uint32_t *right, size_t *row,
                                 size_t *decoys_plus_one, size_t *targets);
+
+/* Modules 6 and 7 in one call: the q-values of a ranked list of spectra as vayemuku_spectrum_q_value makes them, and
+ * the check at one in 100 of the line after the last row that passes, whose *row is the count. Of an accepted list this
+ * line is proved to be right: *right is 1. Refusals: 1, 2. */
+uint32_t vayemuku_checked_spectra(const int32_t *labels, size_t labels_len, float *q, size_t q_len, uint32_t *right,
+                                  size_t *row, size_t *decoys_plus_one, size_t *targets);
+
+/* The same of precursors: q-values at their places as vayemuku_picked_precursor makes them, the place of the precursor
+ * at each rank, and the check at one in 20 of the line of the list as ranked, whose *targets is the count. keys, spare
+ * and ranked are working columns, one entry per precursor. Refusals: 1, 2. */
+uint32_t vayemuku_checked_precursors(const int32_t *labels, size_t labels_len, const double *scores, size_t scores_len,
+                                     uint64_t *keys, size_t keys_len, uint64_t *spare, size_t spare_len,
+                                     int32_t *ranked, size_t ranked_len, uint32_t *order, size_t order_len, float *q,
+                                     size_t q_len, uint32_t *right, size_t *row, size_t *decoys_plus_one,
+                                     size_t *targets);
 
 #ifdef __cplusplus
 }

@@ -66,7 +66,7 @@ last-qualifying rate labels line = record {
 none-later : (rate : ℕ) (labels : List ℤ) (line a b : ℕ) → LastQualifying rate labels line a
     → LastQualifying rate labels line b → a < b → ⊥
 none-later rate labels line a b p q h = elim (q .which) [
-  | inl e ↦ elim (p .which) [ | inl f ↦ omega (arith, e, f, h) | inr f ↦ omega (arith, e, f .0, h) ]
+  | inl e ↦ elim (p .which) [ inl f ↦ omega (arith, e, f, h) | inr f ↦ omega (arith, e, f .0, h) ]
   | inr g ↦ true≢false (sym (g .2) ∙ p .none-after b h (g .1))
 ]
 
@@ -112,7 +112,7 @@ module _ (labels : List ℤ) (q : List Float) (count line : ℕ) (a : spectrumQV
   unfolding spectrumQValue
   took = spectra-accepted (spectrumAsked (length labels) (length q)) (countAtMost (oneIn 100) (qValues labels)) count (qValues labels) (filled nan q) a
 
-  short : length labels ≤ longest
+  pub short : length labels ≤ longest
   short = spectrum-lengths (length labels) (length q) (took .0) .1
 
   line-is : rightLine 100 labels ≡ line
@@ -204,7 +204,7 @@ module _ (labels : List ℤ) (scores : List Float) (keys spare : List ℕ) (q : 
 -- ---- the order of precursors
 
 -- an entry of a list to which a function is applied
-map-at : {A : Type 0} (g : ℕ → A) (d : A) (l : List ℕ) (i : ℕ) → i < length l → getD (map g l) i d ≡ g (getD l i 0)
+pub map-at : {A : Type 0} (g : ℕ → A) (d : A) (l : List ℕ) (i : ℕ) → i < length l → getD (map g l) i d ≡ g (getD l i 0)
 map-at {A} g d l i h =
     ap (λ (x : List A). getD x i d) (sym (tabulated-map g 0 l)) ∙ tabulated-at (λ k. g (getD l k 0)) (length l) i d h
 

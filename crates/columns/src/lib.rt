@@ -110,6 +110,16 @@ pub fn fill_u32(column: &mut [u32], value: u32)
     }
 }
 
+pub fn fill_i32(column: &mut [i32], value: i32)
+    ensures { λ _. ⌜ now (column .exit) ≡ filled value (now (column .entry)) ⌝ }
+{
+    let mut i = 0;
+    while i < column.len() {
+        column[i] = value;
+        i += 1;
+    }
+}
+
 pub fn fill_u64(column: &mut [u64], value: u64)
     ensures { λ _. ⌜ now (column .exit) ≡ filled value (now (column .entry)) ⌝ }
 {

@@ -1,7 +1,8 @@
 // Module 4, posterior errors.
 ghost use mathlib.Core.Path.{_≡_};
 ghost use Rattle.columns.specs.Refusals.{outcomeNumber, _and_};
-ghost use Rattle.kde.specs.Bins.{estimator, binScoresOf, builtNumber, builtEstimator, labelBins, slotBins};
+ghost use Rattle.kde.specs.Bins.{freshBuilder, estimator, binScoresOf, builtNumber, builtEstimator};
+ghost use Rattle.kde.specs.Bins.{labelBins, slotBins};
 ghost use Rattle.kde.specs.Estimate.{posteriorAnswer, posteriorNumber, posteriorValue, posteriorErrors};
 ghost use Rattle.kde.specs.Tolerances.{binCountAnswer, binCountNumber, binCountBins};
 ghost use Rattle.kde.specs.LogErrors.{logError, logErrors};
@@ -9,6 +10,15 @@ ghost use Rattle.vayemuku.specs.Numbers.{builderOf, toleranceOf};
 use kde::Builder;
 use kde::Estimator;
 use kde::Tolerance;
+
+// How many bins sage's builder starts with.
+#[no_mangle]
+pub extern "C" fn vayemuku_default_bins() -> usize
+    ensures { λ r. ⌜ r ≡ freshBuilder .bins ⌝ }
+{
+    let builder = Builder::default();
+    builder.bins
+}
 
 // Step one: `min_score` and `score_step` get the estimator's numbers, and `bin_scores` the score of every bin.
 #[no_mangle]
@@ -25,10 +35,7 @@ pub extern "C" fn vayemuku_bin_scores(
         ⌜ r and now («bin_scores» .exit) and now («min_score» .exit) and now («score_step» .exit)
         ≡ builtNumber (run .answer) and run .binScores and built .«min_score» and built .«score_step» ⌝ }
 {
-    let builder = Builder {
-        monotonic: true,
-        bins: bin_count,
-    };
+    let builder = Builder::default().bins(bin_count);
     let answer = kde::bin_scores(builder, scores, bin_scores);
     let estimator = kde::built_estimator(answer);
     *min_score = estimator.min_score;
@@ -53,10 +60,7 @@ pub extern "C" fn vayemuku_posterior_bins(
         let run = labelBins (builderOf monotonic «bin_count») (now (labels .entry)) decoy target before in
         ⌜ r and now (bins .exit) ≡ outcomeNumber (run .answer) and run .column ⌝ }
 {
-    let builder = Builder {
-        monotonic: monotonic != 0,
-        bins: bin_count,
-    };
+    let builder = Builder::default().monotonic(monotonic != 0).bins(bin_count);
     columns::outcome_number(kde::posterior_bins(
         builder,
         labels,
@@ -83,10 +87,7 @@ pub extern "C" fn vayemuku_slot_posterior_bins(
         let run = slotBins (builderOf monotonic «bin_count») (now («is_decoy» .entry)) decoy target before in
         ⌜ r and now (bins .exit) ≡ outcomeNumber (run .answer) and run .column ⌝ }
 {
-    let builder = Builder {
-        monotonic: monotonic != 0,
-        bins: bin_count,
-    };
+    let builder = Builder::default().monotonic(monotonic != 0).bins(bin_count);
     columns::outcome_number(kde::slot_posterior_bins(
         builder,
         is_decoy,

@@ -55,7 +55,7 @@ pub extern "C" fn vayemuku_precursor_order(
     columns::outcome_number(precursor::precursor_order(scores, keys, spare, order))
 }
 
-// The ranking alone: keys in ascending order, and 0 in `spare`. Refusals 1 and 2 leave 0 in both.
+// The ranking alone: keys in ascending order, after a refusal as they came, and 0 in `spare`.
 #[no_mangle]
 pub extern "C" fn vayemuku_rank_keys(keys: &mut [u64], spare: &mut [u64]) -> u32
     ensures { λ r.
