@@ -14,7 +14,7 @@ pub const ROUNDS: usize = 11;
 
 /// Prints the head of a table.
 pub fn head(unit: &str) {
-    println!("{:22} {:>10} {:>10} {:>11}   ({unit})", "", "port", "Rust", "port / Rust");
+    println!("{:34} {:>10} {:>10} {:>11}   ({unit})", "", "port", "Rust", "port / Rust");
 }
 
 /// Runs both in turn, and prints the median nanoseconds per item of each and their ratio.
@@ -32,7 +32,7 @@ pub fn in_rounds(
 ) {
     let times: Vec<[f64; 2]> = (0..rounds).map(|_| [port(), rust()]).collect();
     let [port, rust] = [0, 1].map(|side| median(times.iter().map(|round| round[side])) / items as f64);
-    println!("{name:22} {port:>10.2} {rust:>10.2} {:>11.3}", port / rust);
+    println!("{name:34} {port:>10.2} {rust:>10.2} {:>11.3}", port / rust);
 }
 
 /// How long one run takes.

@@ -5,6 +5,7 @@ mod counting;
 mod fdr;
 mod features;
 mod fit;
+mod floats;
 mod kde;
 
 use std::fmt::Debug;
@@ -12,7 +13,8 @@ use std::panic::{catch_unwind, set_hook, take_hook, AssertUnwindSafe};
 
 /// Tries every input, and says whether both sides did what the document says.
 pub fn run() -> bool {
-    let lines = [fit::lines(), kde::lines(), counting::lines(), fdr::lines(), features::lines()].concat();
+    let modules = [floats::lines(), fit::lines(), kde::lines(), counting::lines(), fdr::lines(), features::lines()];
+    let lines = modules.concat();
     lines.iter().all(|same| *same)
 }
 

@@ -5,6 +5,7 @@ use crate::{
     check_line, log_errors, precursor_order, spectrum_q_value, Builder, CompetitionTable, Densities, Estimator, Line,
     Model, Names, Psm, QValues, Rate, Refused, Scores, Tolerance, FEATURES, NO_PART,
 };
+use std::cmp::Ordering;
 use std::collections::HashMap;
 
 /// The rescored rows. Each column has one entry per rank, the best row first.
@@ -24,6 +25,39 @@ pub struct Rescored {
     pub proteins: QValues,
     /// The number of proteins that take part.
     pub protein_slots: usize,
+    /// The mean scores of both classes.
+    pub means: MeanScores,
+}
+
+impl Rescored {
+    /// Whether the mean score of the decoys is not below that of the targets, so that the list may rank decoys first.
+    /// Sage's comment has targets project higher than decoys by construction; a fit can be accepted that does not.
+    pub fn decoys_first(&self) -> bool {
+        let MeanScores { targets, decoys } = self.means;
+        // a NaN is not below, and not above
+        decoys.partial_cmp(&targets) != Some(Ordering::Less)
+    }
+}
+
+/// The mean scores of targets and of decoys, in f64 over the list's scores.
+#[derive(Clone, Copy, Debug, PartialEq)]
+pub struct MeanScores {
+    /// Of the rows whose label is not -1.
+    pub targets: f64,
+    /// Of the rows whose label is -1.
+    pub decoys: f64,
+}
+
+impl MeanScores {
+    /// The means of a list; NaN for a class that has no row.
+    fn of(labels: &[i32], scores: &[f32]) -> MeanScores {
+        let mean = |decoys: bool| {
+            let rows = labels.iter().zip(scores).filter(|(&label, _)| (label == -1) == decoys);
+            let (count, sum) = rows.fold((0u32, 0.0), |(count, sum), (_, &score)| (count + 1, sum + f64::from(score)));
+            sum / f64::from(count)
+        };
+        MeanScores { targets: mean(false), decoys: mean(true) }
+    }
 }
 
 /// Rescores rows.
@@ -57,7 +91,8 @@ pub fn rescore(
     let rows = RankedRows { slots: &slots, labels: &labels, scores: &scores };
     let proteins = rows.protein_q_values(names, protein_slots, densities)?;
     let posterior_errors = ranked(&order, &posterior_errors);
-    Ok(Rescored { order, scores, posterior_errors, spectra, line, proteins, protein_slots })
+    let means = MeanScores::of(&labels, &scores);
+    Ok(Rescored { order, scores, posterior_errors, spectra, line, proteins, protein_slots, means })
 }
 
 /// The entries of a column in the order of ranks.
@@ -184,6 +219,53 @@ mod tests {
             }
         };
         (0..60).map(row).collect()
+    }
+
+    /// Densities that are 1 throughout: every posterior error is the share of decoys.
+    struct Level;
+
+    impl Densities for Level {
+        fn take(&mut self, _what: &str, _sample: &[f64], _width: f64, points: &[f64]) -> Vec<f64> {
+            vec![1.0; points.len()]
+        }
+    }
+
+    /// Rescores rows of a target and decoys with these fragment errors and aligned retention times, and zeros elsewhere
+    /// but for mass errors that differ.
+    fn of_pairs(pairs: &[(f32, f32)]) -> Rescored {
+        let row = |(place, &(fragment_ppm, aligned_rt)): (usize, &(f32, f32))| Psm {
+            label: if place == 0 { 1 } else { -1 },
+            precursor_ppm: place as f32,
+            peptide_len: 8,
+            fragment_ppm,
+            aligned_rt,
+            ..Psm::default()
+        };
+        let rows: Vec<Psm> = pairs.iter().enumerate().map(row).collect();
+        rescore(&rows, &vec![None; rows.len()], Names::Two, Tolerance::Ppm(-10.0, 10.0), &mut Level).unwrap()
+    }
+
+    #[test]
+    fn a_fit_that_ranks_decoys_first_is_accepted_and_seen() {
+        let above = of_pairs(&[(0.0, 0.0), (1e8, 1e8), (0.0, -3.0)]);
+        // the target is last
+        assert_eq!(above.order, [2, 1, 0]);
+        assert_eq!(above.scores, [18.0, 15.999999, 0.0]);
+        assert_eq!(above.means, MeanScores { targets: 0.0, decoys: (18.0 + f64::from(15.999999f32)) / 2.0 });
+        assert!(above.decoys_first());
+        // equal rows have equal scores
+        assert!(of_pairs(&[(0.0, 0.0), (0.0, 0.0)]).decoys_first());
+        assert!(!of_pairs(&[(1.0, 0.0), (0.0, 0.0)]).decoys_first());
+    }
+
+    #[test]
+    fn a_mean_of_nan_is_not_below() {
+        let rescored = of_pairs(&[(1.0, 0.0), (0.0, 0.0)]);
+        let first =
+            |targets, decoys| Rescored { means: MeanScores { targets, decoys }, ..rescored.clone() }.decoys_first();
+        assert!(!first(1.0, 0.5) && first(0.5, 0.5) && first(0.5, 1.0));
+        assert!(first(f64::NAN, 0.5) && first(0.5, f64::NAN));
+        assert_eq!(MeanScores::of(&[1, -1, 7], &[3.0, 0.5, 1.0]), MeanScores { targets: 2.0, decoys: 0.5 });
     }
 
     /// Densities by sage's kernel, of which one has an entry too few.

@@ -252,6 +252,33 @@ fn proteins_compete_with_their_decoys() {
 }
 
 #[test]
+fn a_list_that_ranks_decoys_first_is_written_with_a_warning() {
+    let folder = Folder::new("decoys-first");
+    let mut table = folder.sample(1);
+    table.0.resize(5, table.0[1].clone());
+    // the rows differ in these columns alone; both classes have the same mass errors, so that all rows have one
+    // posterior error
+    let columns = ["label", "precursor_ppm", "fragment_ppm", "aligned_rt"];
+    let cells =
+        [["1", "-1", "0", "0"], ["1", "1", "0", "0"], ["-1", "-1", "100000000", "100000000"], ["-1", "1", "0", "-3"]];
+    for (row, cells) in cells.into_iter().enumerate() {
+        for (column, cell) in columns.into_iter().zip(cells) {
+            table = table.with(row + 1, column, cell);
+        }
+    }
+    let (ran, list) = rescored(&folder, &table, "");
+    let means = "the mean score of decoys, 16.999999523162842, is not below that of targets, 0.0";
+    let warning = format!("vayemuku: in.tsv: warning: {means}: the list may rank decoys first\n");
+    assert_eq!((ran.status, ran.stderr), (Some(0), warning));
+    assert!(ran.stdout.ends_with("written   out.tsv\n"), "{}", ran.stdout);
+    assert_eq!(list.column("label"), ["-1", "-1", "1", "1"]);
+    assert_eq!(list.column("sage_discriminant_score"), ["18.0", "15.999999", "0.0", "0.0"]);
+    // targets score higher in the sample
+    let (ran, _) = rescored(&folder, &folder.sample(600), "");
+    assert_eq!((ran.status, ran.stderr.as_str()), (Some(0), ""));
+}
+
+#[test]
 fn progress_is_shown_where_it_is_asked_for() {
     let folder = Folder::new("progress");
     let (ran, list) = rescored(&folder, &folder.sample(600), "--progress");

@@ -13,6 +13,15 @@ use vayemuku_sys::{rank_keys, vayemuku_order_key_f32, RankingColumns};
 /// Numbers of rows, and of rounds.
 const SIZES: [(usize, usize); 2] = [(1_000_000, ROUNDS), (LONGEST, 3)];
 
+/// Numbers of keys of the bare ranking, and of rounds.
+const RANKED: [(usize, usize); 4] = [(1_000, 1_001), (100_000, 101), (1_000_000, ROUNDS), (LONGEST, 3)];
+
+/// Rust's sorts beside the bare ranking.
+const SORTS: [(&str, Sort); 2] = [("sort", <[u64]>::sort), ("sort_unstable", <[u64]>::sort_unstable)];
+
+/// A sort of keys.
+type Sort = fn(&mut [u64]);
+
 /// Times a call under a name, at a number of rows, in a number of rounds.
 type Timed = fn(&str, usize, usize) -> Result<(), String>;
 
@@ -23,20 +32,36 @@ pub fn run() -> bool {
     println!("precursors: scores in random order. sage reads an FnvHashMap of peaks, makes one of q-values and looks");
     println!("every peak up in it; that is part of its time.");
     println!(
-        "ranking: random scores. The port sorts keys of 64 bits (score, then place), made before the clock starts."
+        "ranking: keys of 64 bits (random score, then place), beside Rust's sorts of the same keys. Each run has a"
     );
-    println!("Beside it is Rust's stable sort_by with total_cmp on rows (f32, u32); its buffer is part of its time.");
-    let rounds = SIZES.map(|(rows, rounds)| format!("median of {rounds} rounds at {rows}"));
-    head(&format!("ns per row, {}", rounds.join(", ")));
-    let calls: [(&str, Timed); 3] = [("spectrum", spectrum), ("precursors", precursors), ("ranking", ranking)];
+    println!(
+        "fresh copy of them, made before the clock starts. The port is given its spare column; sort makes a buffer of"
+    );
+    println!("its own, which is part of its time, and sort_unstable needs none.");
+    let rounds = |sizes: &[(usize, usize)]| -> String {
+        let words = |(rows, rounds): &(usize, usize)| format!("{rounds} rounds at {rows}");
+        sizes.iter().map(words).collect::<Vec<_>>().join(", ")
+    };
+    head(&format!("ns per row, medians; {}; ranking {}", rounds(&SIZES), rounds(&RANKED)));
+    let calls: [(&str, Timed); 2] = [("spectrum", spectrum), ("precursors", precursors)];
     let mut same = true;
+    let mut note = |name: &str, outcome: Result<(), String>| {
+        if let Err(words) = outcome {
+            println!("{name}: {words}");
+            same = false;
+        }
+    };
     for (call, time) in calls {
         for (rows, rounds) in SIZES {
             let name = format!("{call}, {rows}");
-            if let Err(words) = time(&name, rows, rounds) {
-                println!("{name}: {words}");
-                same = false;
-            }
+            note(&name, time(&name, rows, rounds));
+        }
+    }
+    for (keys, rounds) in RANKED {
+        let unsorted = keys_of_scores(keys);
+        for (sort, by) in SORTS {
+            let name = format!("ranking, {keys}, {sort}");
+            note(&name, ranking(&name, &unsorted, rounds, by));
         }
     }
     same
@@ -100,27 +125,30 @@ fn precursors(name: &str, rows: usize, rounds: usize) -> Result<(), String> {
     expect_column("q", &q, q_of(&sage, &labels))
 }
 
-/// The bare ranking.
-fn ranking(name: &str, rows: usize, rounds: usize) -> Result<(), String> {
+/// Keys of random scores, in the order of their places.
+fn keys_of_scores(count: usize) -> Vec<u64> {
     let mut random = Random::new(10);
     // from -2^20 to 2^20, with random digits
     let score = |_| (random.next() as i64 as f64 / 2f64.powi(43)) as f32;
-    let rust_rows: Vec<(f32, u32)> = (0..rows).map(score).zip(0..).collect();
-    let key = |&(score, place)| u64::from(u32::MAX - vayemuku_order_key_f32(score)) << 32 | u64::from(place);
-    let port_keys: Vec<u64> = rust_rows.iter().map(key).collect();
-    let (mut keys, mut spare, mut sorted) = (port_keys.clone(), vec![0; rows], rust_rows.clone());
+    let key = |(score, place)| u64::from(u32::MAX - vayemuku_order_key_f32(score)) << 32 | place;
+    (0..count).map(score).zip(0..).map(key).collect()
+}
+
+/// The bare ranking, beside one of Rust's sorts.
+fn ranking(name: &str, unsorted: &[u64], rounds: usize, sort: Sort) -> Result<(), String> {
+    let (mut keys, mut sorted) = (unsorted.to_vec(), unsorted.to_vec());
+    let mut spare = vec![0; unsorted.len()];
     let port = || {
-        keys.copy_from_slice(&port_keys);
+        keys.copy_from_slice(unsorted);
         nanoseconds(&mut || rank_keys(&mut keys, &mut spare).number.into())
     };
     let rust = || {
-        sorted.copy_from_slice(&rust_rows);
+        sorted.copy_from_slice(unsorted);
         nanoseconds(&mut || {
-            sorted.sort_by(|a, b| b.0.total_cmp(&a.0));
-            sorted[0].1.into()
+            sort(&mut sorted);
+            sorted[0]
         })
     };
-    in_rounds(name, rounds, rows, port, rust);
-    let places: Vec<u32> = keys.iter().map(|key| *key as u32).collect();
-    expect_column("place", &places, sorted.iter().map(|row| row.1))
+    in_rounds(name, rounds, unsorted.len(), port, rust);
+    expect_column("key", &keys, sorted.iter().copied())
 }

@@ -119,7 +119,7 @@ fn competition(function: Function) -> Result<(), String> {
     let name = ["two names", "one name"][function as usize];
     in_rounds(name, ROUNDS, ROWS, both, || nanoseconds(&mut rust));
     for (part, words) in ["  of that, adding", "  of that, q-values"].into_iter().enumerate() {
-        println!("{words:22} {:>10.2}", median(times.iter().map(|time| time[part])) / ROWS as f64);
+        println!("{words:34} {:>10.2}", median(times.iter().map(|time| time[part])) / ROWS as f64);
     }
     expect("number and count", answer, (0, sage_count))?;
     expect_column("q", &port.q, sage.q(function))

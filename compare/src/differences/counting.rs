@@ -14,7 +14,7 @@ const LABELS: [i32; 3] = [1, 1, -1];
 
 /// The lines of the module.
 pub fn lines() -> Vec<bool> {
-    vec![tied(), nan(), labels()]
+    vec![tied(), tied_as_f32(), nan(), pair(), labels()]
 }
 
 /// sage's q-values of two targets and a decoy with these scores, whose peptides are numbered from `first` on.
@@ -33,14 +33,20 @@ fn port(scores: [f64; 3]) -> [f32; 3] {
     q
 }
 
-/// Equal scores: sage's answers under several numbers of the same three peptides.
+/// Scores that are equal as f32: sage's answers under several numbers of the same three peptides.
+fn by_number(input: &str, scores: [f64; 3]) -> bool {
+    let answers: BTreeSet<String> = (0..16).map(|first| format!("{:?}", sage(first, scores))).collect();
+    check(input, (answers, "{\"[0.5, 0.5, 1.0]\", \"[1.0, 1.0, 1.0]\"}"), (port(scores), "[0.5, 0.5, 1.0]"))
+}
+
+/// Equal scores.
 fn tied() -> bool {
-    let answers: BTreeSet<String> = (0..16).map(|first| format!("{:?}", sage(first, [1.0; 3]))).collect();
-    check(
-        "two target precursors and a decoy, all scored 1.0",
-        (answers, "{\"[0.5, 0.5, 1.0]\", \"[1.0, 1.0, 1.0]\"}"),
-        (port([1.0; 3]), "[0.5, 0.5, 1.0]"),
-    )
+    by_number("two target precursors and a decoy, all scored 1.0", [1.0; 3])
+}
+
+/// A decoy that scores higher, but not as f32.
+fn tied_as_f32() -> bool {
+    by_number("target precursors 1.0 and 1.0, a decoy 1.00000001", [1.0, 1.0, 1.00000001])
 }
 
 /// A NaN with the sign set.
@@ -48,6 +54,18 @@ fn nan() -> bool {
     let scores = [1.0, 0.0, -f64::NAN];
     let (sage, port) = (sage(0, scores), port(scores));
     check("targets 1.0 and 0.0, a decoy -NaN", (sage, "[0.5, 0.5, 1.0]"), (port, "[1.0, 1.0, 1.0]"))
+}
+
+/// A target, another target and the decoy of the first, which lost to it: all three are ranked.
+fn pair() -> bool {
+    let key = |place: usize| (PrecursorId::Combined(PeptideIx([0, 1, 0][place])), place == 2);
+    let scores = [3.0, 1.0, 2.0];
+    let peak = |score| (Peak { score, ..Peak::default() }, Vec::new());
+    let mut peaks: FnvHashMap<_, _> = (0..3).map(|place| (key(place), peak(scores[place]))).collect();
+    sage_core::fdr::picked_precursor(&mut peaks);
+    let sage = [0, 1, 2].map(|place| peaks[&key(place)].0.q_value);
+    let ones = "[1.0, 1.0, 1.0]";
+    check("target precursors 3.0 and 1.0, the first one's decoy 2.0", (sage, ones), (port(scores), ones))
 }
 
 /// Labels that are neither -1 nor 1.

@@ -1,21 +1,25 @@
 //! Module 5.
 
 use super::check;
-use crate::calls::{assign_q_value, estimator};
+use crate::calls::{assign_q_value, bin_scores, estimator};
 use crate::fdr::draws::SlotRows;
 use crate::fdr::reading::{PlainTable, NO_PART};
 use crate::fdr::tables::rows as columns;
 use fnv::FnvHashMap;
+use host::kernel::Kernel;
 use sage_core::database::{IndexedDatabase, PeptideIx};
 use sage_core::fdr::{opened, picked_protein, picked_protein_group, Competition};
 use sage_core::ml::kde::{forcing, recording, Build, Parts};
 use sage_core::peptide::Peptide;
 use sage_core::scoring::Feature;
 use std::collections::BTreeSet;
-use vayemuku_sys::{add_rows, fresh_table, winners, RankingColumns};
+use vayemuku_sys::{add_rows, fresh_table, slot_posterior_bins, winners, RankingColumns};
 
 /// The field of a q-value before a call.
 const BEFORE: f32 = 0.5;
+
+/// The bins of sage's builder.
+const BINS: usize = 1000;
 
 /// A row: its slot, label and score.
 type BatchRow = (u32, i32, f32);
@@ -24,7 +28,7 @@ type BatchRow = (u32, i32, f32);
 pub fn lines() -> Vec<bool> {
     let lone =
         [label_and_peptide(), no_rows(), no_targets(), never_scored(), names_that_meet(), one_name(), nan_side()];
-    [lone.to_vec(), tied(), no_part(), sides()].concat()
+    [lone.to_vec(), few_decoys(), sums(), tied(), no_part(), sides()].concat()
 }
 
 /// Bins from the least score 0 on, a step of 1 apart.
@@ -45,10 +49,15 @@ fn feature(peptide: u32, label: i32, score: f32) -> Feature {
     Feature { peptide_idx, label, discriminant_score: score, protein_q, protein_group_q: BEFORE, ..Feature::default() }
 }
 
+/// sage's rows.
+fn features(rows: &[BatchRow]) -> Vec<Feature> {
+    let row = |&(slot, label, score): &BatchRow| feature(2 * slot + u32::from(label == -1), label, score);
+    rows.iter().map(row).collect()
+}
+
 /// sage's q-values of proteins, and its count.
 fn sage(db: &IndexedDatabase, rows: &[BatchRow], parts: &Parts) -> (Vec<f32>, usize) {
-    let row = |&(slot, label, score): &BatchRow| feature(2 * slot + u32::from(label == -1), label, score);
-    let mut rows: Vec<Feature> = rows.iter().map(row).collect();
+    let mut rows = features(rows);
     let count = forcing(parts.clone(), || picked_protein(db, &mut rows));
     (rows.iter().map(|row| row.protein_q).collect(), count)
 }
@@ -135,6 +144,53 @@ fn one_name() -> bool {
     let (rows, parts) = ([(0, 1, 1.0), (0, -1, 0.0)], bins(&[1.0, -1.0]));
     let sage = sage(&database(["P", "Q"], false), &rows, &parts);
     check("one name, target 1.0, decoy 0.0", (sage, "([1.0, 1.0], 1)"), (port(0, &rows, &parts), "([1.0, 1.0], 1)"))
+}
+
+/// The port's estimator of a table of two slots, with host's kernel.
+fn fitted(table: &PlainTable) -> Parts {
+    let (scores, is_decoy) = port_winners(table);
+    let scores = scores.map(f64::from);
+    let (mut at, mut bins) = ([0.5; BINS], vec![0.5; BINS]);
+    let built = bin_scores(BINS, &scores, &mut at);
+    let density = |flag| {
+        let slots = scores.iter().zip(is_decoy).filter(|(_, decoy)| *decoy == flag);
+        let sample: Vec<f64> = slots.map(|(score, _)| *score).collect();
+        at.map(|point| Kernel::new(&sample, 1.0).density(point))
+    };
+    let number = slot_posterior_bins(1, BINS, &is_decoy, &density(1), &density(0), &mut bins).number;
+    assert_eq!((built.number, number), (0, 0));
+    Parts { bins, min_score: built.min_score, score_step: built.score_step }
+}
+
+/// Proteins of which no decoy wins, and of which one does: the q-values with the bins that are fitted.
+fn few_decoys() -> Vec<bool> {
+    let db = database(["P", "Q"], true);
+    let line = |input, rows: &[BatchRow]| {
+        let mut of_sage = features(rows);
+        let count = picked_protein(&db, &mut of_sage);
+        let q: Vec<f32> = of_sage.iter().map(|row| row.protein_q).collect();
+        let port = port(1, rows, &fitted(&table(rows)));
+        check(input, ((q, count), "([1.0, 1.0], 0)"), (port, "([1.0, 1.0], 0)"))
+    };
+    vec![
+        line("targets 2.0 and 1.0 of two proteins, no decoy, fitted", &[(0, 1, 2.0), (1, 1, 1.0)]),
+        line("a target 2.0 and a decoy 1.0 of two proteins, fitted", &[(0, 1, 2.0), (1, -1, 1.0)]),
+    ]
+}
+
+/// A side that lost, errors that are lost in the sum, and a ratio above 1.
+fn sums() -> Vec<bool> {
+    let db = database(["P", "Q"], true);
+    let line = |input, rows: &[BatchRow], error: f64, wanted| {
+        let parts = bins(&[error]);
+        check(input, (sage(&db, rows, &parts), wanted), (port(1, rows, &parts), wanted))
+    };
+    let pair = [(0, 1, 3.0), (0, -1, 2.0), (1, 1, 1.0)];
+    vec![
+        line("a target 3.0, its decoy 2.0, another target 1.0", &pair, 0.25, "([0.875, 0.875, 0.875], 0)"),
+        line("targets 2.0 and 1.0, errors 5E-8", &[(0, 1, 2.0), (1, 1, 1.0)], 5e-8, "([0.5, 0.5], 0)"),
+        line("a decoy alone, error 0.5", &[(0, -1, 0.0)], 0.5, "([1.0], 0)"),
+    ]
 }
 
 /// Sides scored 1.0: sage's answers under several names of the two proteins.

@@ -4,7 +4,7 @@ use super::{check, unless_it_panics, Panicked};
 use crate::calls::{bin_count, bin_scores, estimator, posterior_error};
 use crate::kde::builds::Case;
 use crate::kde::draws::Width;
-use crate::kde::reading::{mixed, DensityPair};
+use crate::kde::reading::{bins_across, mixed, DensityPair};
 use host::kernel::Kernel;
 use sage_core::mass::Tolerance;
 use sage_core::ml::kde::{forcing, recording, Builder, Estimator, Kde, Parts};
@@ -14,7 +14,8 @@ use vayemuku_sys::{posterior_bins, vayemuku_log_error, EstimatorRef};
 
 /// The lines of the module.
 pub fn lines() -> Vec<bool> {
-    [bin_counts(), tolerances(), no_rows(), vec![flags(), infinite_error(), kernels()]].concat()
+    let lone = vec![flags(), infinite_error(), kernels()];
+    [bin_counts(), tolerances(), infinite_tolerances(), no_rows(), spans(), last_bin(), errors(), lone].concat()
 }
 
 /// No bins, and one.
@@ -75,6 +76,124 @@ fn tolerances() -> Vec<bool> {
             "ppm 200 to -200",
             (bins_of(Tolerance::Ppm(200.0, -200.0)), "Ok(100)"),
             (bin_count(0, 200.0, -200.0), "(0, 100)"),
+        ),
+    ]
+}
+
+/// Tolerances with an infinite end. sage's number of bins saturates, and its column cannot be made.
+fn infinite_tolerances() -> Vec<bool> {
+    let infinity = f32::INFINITY;
+    let most = "18446744073709551615";
+    vec![
+        check(
+            "ppm 0 to infinity: the number of bins",
+            (bins_across(0.0, infinity, 100.0), most),
+            (bin_count(0, 0.0, infinity), "(3, 0)"),
+        ),
+        check(
+            "ppm 0 to infinity",
+            (bins_of(Tolerance::Ppm(0.0, infinity)), "Err(Panicked)"),
+            (bin_count(0, 0.0, infinity), "(3, 0)"),
+        ),
+        check(
+            "Da -infinity to infinity",
+            (bins_of(Tolerance::Da(-infinity, infinity)), "Err(Panicked)"),
+            (bin_count(1, -infinity, infinity), "(3, 0)"),
+        ),
+        check(
+            "Da 0 to 1E20",
+            (bins_of(Tolerance::Da(0.0, 1e20)), "Err(Panicked)"),
+            (bin_count(1, 0.0, 1e20), "(3, 0)"),
+        ),
+        check(
+            "ppm infinity to -infinity",
+            (bins_of(Tolerance::Ppm(infinity, -infinity)), "Ok(100)"),
+            (bin_count(0, infinity, -infinity), "(0, 100)"),
+        ),
+        check(
+            "ppm infinity to infinity",
+            (bins_of(Tolerance::Ppm(infinity, infinity)), "Ok(100)"),
+            (bin_count(0, infinity, infinity), "(0, 100)"),
+        ),
+    ]
+}
+
+/// Least score and step of scores in two bins, and the score of the first bin, on both sides.
+fn span_of(scores: &[f64]) -> ((f64, f64), (f64, f64, f64)) {
+    let decoys: Vec<bool> = scores.iter().map(|_| true).collect();
+    let Parts { min_score, score_step, .. } = Builder::default().bins(2).build(scores, &decoys).parts();
+    let mut at = [0.5; 2];
+    let built = bin_scores(2, scores, &mut at);
+    ((min_score, score_step), (built.min_score, built.score_step, at[0]))
+}
+
+/// Scores whose least is past f64's finite numbers, or whose distance is.
+fn spans() -> Vec<bool> {
+    let (plus, minus) = (span_of(&[f64::INFINITY]), span_of(&[f64::NEG_INFINITY]));
+    let (nan, far) = (span_of(&[f64::NAN]), span_of(&[-1e308, 1e308]));
+    let most = "1.7976931348623157e308";
+    vec![
+        check(
+            "a score of infinity: least score and step",
+            (plus.0, &format!("({most}, inf)")),
+            (plus.1, &format!("({most}, inf, NaN)")),
+        ),
+        check("a score of -infinity: least score and step", (minus.0, "(-inf, inf)"), (minus.1, "(-inf, inf, NaN)")),
+        check(
+            "a score of NaN: least score and step",
+            (nan.0, &format!("({most}, -inf)")),
+            (nan.1, &format!("({most}, -inf, NaN)")),
+        ),
+        check("scores -1E308 and 1E308: least score and step", (far.0, "(-1e308, inf)"), (far.1, "(-1e308, inf, NaN)")),
+    ]
+}
+
+/// The posterior error of a score under an estimator, on both sides.
+fn error_of(bins: &[f64], (min_score, score_step): (f64, f64), score: f64) -> (f64, f64) {
+    let parts = Parts { bins: bins.to_vec(), min_score, score_step };
+    let (number, port) = posterior_error(estimator(&parts), score);
+    assert_eq!(number, 0);
+    (Estimator::from_parts(parts).posterior_error(score), port)
+}
+
+/// Scores at the last bin's own score, above it, and the largest score of a build: not the last value.
+fn last_bin() -> Vec<bool> {
+    let at = error_of(&[0.5, 0.25], (1.0, 0.4), 1.0 + 0.4);
+    let own = 3.0f64 * 0.7 - 2.0;
+    let above = |place| error_of(&[0.5, 0.5, 0.5, 0.25], (-2.0, 0.7), f64::from_bits(own.to_bits() + place));
+    let step = Builder::default().bins(8).build(&[0.0, 9.0], &[true, false]).parts().score_step;
+    let bins = [[0.5; 7].as_slice(), &[0.25]].concat();
+    let (largest, past) = (error_of(&bins, (0.0, step), 9.0), error_of(&bins, (0.0, step), 9.000000000000002));
+    let line = |input, (sage, port): (f64, f64), wanted| check(input, (sage, wanted), (port, wanted));
+    vec![
+        line("bins 0.5 0.25, least 1, step 0.4, score 1.4", at, "0.25000000000000006"),
+        line(
+            "bins 0.5 0.5 0.5 0.25, least -2, step 0.7, the fourth score after the last bin's",
+            above(4),
+            "0.2500000000000001",
+        ),
+        line("the same, the fifth", above(5), "0.25"),
+        line("eight bins of the scores 0 and 9, the last 0.25, the others 0.5: score 9", largest, "0.2500000000000002"),
+        line("the same: the score after 9", past, "0.25"),
+    ]
+}
+
+/// Errors that rise with the score, or are no number.
+fn errors() -> Vec<bool> {
+    let falling = [0.5, 0.5, 0.0];
+    let (below, at) = (error_of(&falling, (-0.1, 0.4), 0.29999999999999993), error_of(&falling, (-0.1, 0.4), 0.3));
+    let level = error_of(&[0.5, 0.5], (0.0, 1.0), f64::NEG_INFINITY);
+    let beside = error_of(&[0.5, f64::NAN], (0.0, 1.0), 0.0);
+    let [above, under] = [1.0, -1.0].map(|score| error_of(&[0.5, 0.25], (0.0, -0.0), score));
+    let rises = "(0.5, 0.5000000000000001)";
+    vec![
+        check("bins 0.5 0.5 0, least -0.1, step 0.4, two scores", ((below.0, at.0), rises), ((below.1, at.1), rises)),
+        check("bins 0.5 0.5, score -infinity", (level.0, "NaN"), (level.1, "NaN")),
+        check("bins 0.5 NaN, score 0", (beside.0, "NaN"), (beside.1, "NaN")),
+        check(
+            "bins 0.5 0.25, step -0, scores 1 and -1",
+            ((above.0, under.0), "(inf, NaN)"),
+            ((above.1, under.1), "(inf, NaN)"),
         ),
     ]
 }

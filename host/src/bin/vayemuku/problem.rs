@@ -56,7 +56,7 @@ impl Problem {
 }
 
 /// Writes a line on standard error.
-fn warn(line: impl Display) {
+pub fn warn(line: impl Display) {
     // where standard error cannot be written, nothing can be reported
     let _ = writeln!(std::io::stderr(), "vayemuku: {line}");
 }

@@ -4,14 +4,14 @@ use crate::arguments::Rescore;
 use crate::date::today;
 use crate::draft::Draft;
 use crate::list::{Failure, List};
-use crate::problem::{say, Problem};
+use crate::problem::{say, warn, Problem};
 use crate::progress::Progress;
 use crate::proteins::Decoys;
 use crate::psms::{self, Psms};
 use crate::results_table::{place, ResultsTable};
 use vayemuku::features::FEATURE_NAMES;
 use vayemuku::kernel::Kernel;
-use vayemuku::rescoring::{rescore, Rescored};
+use vayemuku::rescoring::{rescore, MeanScores, Rescored};
 use vayemuku::{Densities, Line, Psm, Rate, Refused, Tolerance};
 
 /// Rescores a table and writes the list; Ok says whether its line is right.
@@ -29,7 +29,10 @@ pub fn run(job: &Rescore) -> Result<bool, Problem> {
     let written = write(job, &table, answer.as_ref().ok(), &mut progress);
     progress.finish();
     match answer {
-        Ok(rescored) => written.and_then(|_| report(job, &psms, &rescored)),
+        Ok(rescored) => written.and_then(|_| {
+            warn_of_means(&table, &rescored);
+            report(job, &psms, &rescored)
+        }),
         Err(refused) => Err(refusal(job, &table, &psms, refused, written)),
     }
 }
@@ -47,6 +50,15 @@ fn write(
         Ok(()) => draft.finish(),
         Err(Failure::Write(why)) => Err(draft.problem(why)),
         Err(Failure::Problem(problem)) => Err(problem),
+    }
+}
+
+/// Warns of a list that may rank decoys first.
+fn warn_of_means(table: &ResultsTable, rescored: &Rescored) {
+    if rescored.decoys_first() {
+        let MeanScores { targets, decoys } = rescored.means;
+        let means = format!("the mean score of decoys, {decoys:?}, is not below that of targets, {targets:?}");
+        warn(format!("{}: warning: {means}: the list may rank decoys first", table.name()));
     }
 }
 
