@@ -41,6 +41,8 @@ layout: need-rt need-cargo
 	cd host && cargo fmt --all --check
 	cd compare && cargo fmt --check
 	.ci/lint
+	.ci/contracts --self-test
+	.ci/contracts
 
 lib: need-rt ## target/staticlib/libvayemuku.a, to link with include/vayemuku.h; proved only where something has changed
 	@[ -f $(LIBRARY) ] && [ "$$($(SUM))" = "$$(cat $(LIBRARY).sum 2>&1)" ] || $(MAKE) --no-print-directory proved-lib
