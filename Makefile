@@ -31,7 +31,7 @@ test: need-rt need-cargo ## the gate: documents, layout, host's tests, then rt c
 	$(MAKE) --no-print-directory host
 	rt ci
 
-lint: layout prepare lib ## layout, line widths and words of all sources, and clippy of host/ and compare/
+lint: layout prepare lib ## layout, line widths and words of all sources, what contracts speak of, and clippy
 	cd host && $(CLIPPY) -- -D warnings
 	cd compare && $(CLIPPY) --offline -- -D warnings
 
