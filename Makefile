@@ -31,7 +31,7 @@ test: need-rt need-cargo ## the gate: documents, layout, host's tests, then rt c
 	$(MAKE) --no-print-directory host
 	rt ci
 
-lint: layout prepare lib ## layout, line widths and words of all sources, and clippy of host/ and compare/
+lint: layout prepare lib ## layout, line widths and words of all sources, what contracts speak of, and clippy
 	cd host && $(CLIPPY) -- -D warnings
 	cd compare && $(CLIPPY) --offline -- -D warnings
 
@@ -41,6 +41,8 @@ layout: need-rt need-cargo
 	cd host && cargo fmt --all --check
 	cd compare && cargo fmt --check
 	.ci/lint
+	.ci/contracts --self-test
+	.ci/contracts
 
 lib: need-rt ## target/staticlib/libvayemuku.a, to link with include/vayemuku.h; proved only where something has changed
 	@[ -f $(LIBRARY) ] && [ "$$($(SUM))" = "$$(cat $(LIBRARY).sum 2>&1)" ] || $(MAKE) --no-print-directory proved-lib
