@@ -112,7 +112,8 @@ pub fn solve(left: [[f64; 20]; 20], right: [f64; 20], size: usize) -> Solution
     solve_at(&left, &right, size)
 }
 
-// That, of a system that is read where it is, without a copy.
+// That, of a system that is read where it is, without a copy. Question 3 is asked here: asked by a function of its own,
+// it makes the compiler copy the table six times.
 pub fn solve_at(left: &[[f64; 20]; 20], right: &[f64; 20], size: usize) -> Solution
     ensures { λ r. ⌜ r ≡ solution (now (left .entry)) (now (right .entry)) size ⌝ }
 {
