@@ -34,7 +34,7 @@ fn print_head() {
     println!(
         "before the clock starts; that it copies them for each try, and frees them, is part of its time. The port"
     );
-    println!("is handed twenty rows of twenty numbers whatever the size; that it copies them is part of its time.");
+    println!("is handed twenty rows of twenty numbers whatever the size; its table for each try is part of its time.");
     println!("train: random rows, half of them decoys at random. sage's feat_fn copies a row of the port's feature");
     println!("column; its decoy marks are made before the clock starts. The port reads labels. Solving the system of");
     println!("size {FEATURES} is part of both times.");

@@ -27,11 +27,15 @@ isAnswer (Refused refusal) = false
 -- ---- solve_inner: the stages, and the two returns
 
 module _ (size : ℕ) (eps : Float) (m : Matrix) where
-  pub stages : {m₁ m₂ m₃ m₄ : Matrix} → m₁ ≡ diagonalFilled size eps m → m₂ ≡ echeloned size m₁ → m₃ ≡ reduced size m₂
+  pub first-stages : {m₀ m₁ m₂ : Matrix} → m₀ ≡ m → m₁ ≡ diagonalFilled size eps m₀ → m₂ ≡ echeloned size m₁
+      → m₂ ≡ echeloned size (diagonalFilled size eps m)
+  first-stages j f e = e ∙ ap (echeloned size) (f ∙ ap (diagonalFilled size eps) j)
+
+  pub stages : {m₂ m₃ m₄ : Matrix} → m₂ ≡ echeloned size (diagonalFilled size eps m) → m₃ ≡ reduced size m₂
       → m₄ ≡ backfilled size m₃
       → m₄ ≡ eliminated size eps m
   unfolding eliminated
-  stages f e r b = b ∙ ap (backfilled size) (r ∙ ap (reduced size) (e ∙ ap (echeloned size) f))
+  stages e r b = b ∙ ap (backfilled size) (r ∙ ap (reduced size) e)
 
   attempt-is : (b : Bool) → leftSolved size (eliminated size eps m) ≡ b
       → attempt size eps m ≡ cond b (solvedWith (values size (eliminated size eps m))) (blank Unsolved)
@@ -116,12 +120,12 @@ module _ {size : ℕ} {m : Matrix} {eps : Float} (w : Trying size m eps) where
 -- ---- the question on the size
 
 module _ (left : Matrix) (right : Vector) (size : ℕ) where
-  pub in-range : {r : Solution} {m : Matrix} → (size ≡ 0 → ⊥) → size ≤ 20 → m ≡ joined left right size
-      → r ≡ firstAnswer size m → r ≡ solution left right size
+  pub in-range : {r : Solution} → (size ≡ 0 → ⊥) → size ≤ 20 → r ≡ firstAnswer size (joined left right size)
+      → r ≡ solution left right size
   unfolding solution
-  in-range p h j e =
+  in-range p h e =
       let low : 1 ≤ size = omega arith in
-      e ∙ ap (firstAnswer size) j ∙ rw (le-leb 1 size low, le-leb size 20 h)
+      e ∙ rw (le-leb 1 size low, le-leb size 20 h)
 
   pub size-zero : {r : Solution} → size ≡ 0 → r ≡ blank OutOfRange → r ≡ solution left right size
   unfolding solution

@@ -64,8 +64,8 @@ abbrev pub larger : Matrix → ℕ → ℕ → Pivot → Pivot
 larger m k i max = cond (le (max .value) (entry m i k)) (record { row = i; value = entry m i k }) max
 
 -- "The pivot is the largest signed entry, not the largest size; among equals the last row wins. If nothing in the
--- column from row h down is ≥ f64::MIN (only NaN or −infinity), row 0 is picked": let mut max = (0, f64::MIN), then
--- each i in h..m
+-- column from row h down is ≥ f64::MIN (only NaN or −infinity), row 0 is picked" (theorems `pivot-is-largest`,
+-- `pivot-only` and `row-zero`): let mut max = (0, f64::MIN), then each i in h..m
 unfoldable pub pivotRow : ℕ → ℕ → ℕ → Matrix → ℕ
 pivotRow size h k m = forRange (larger m k) h size (record { row = 0; value = f64Min }) .row
 
@@ -83,7 +83,7 @@ abbrev pub clearRow : Vector → ℕ → ℕ → ℕ → Matrix → Matrix
 clearRow p size k i m =
     rowSubtracted p size i (k + 1) (div binary64 (entry m i k) (getD p k nan)) (setEntry i k f64Zero m)
 
--- "Clear rows below pivot row": each i in h + 1..m. None of them is h, so p is row h throughout.
+-- "Clear rows below pivot row": each i in h + 1..m. Row h is p throughout (theorem `pivot-row-stays`).
 unfoldable pub clearedBelow : ℕ → ℕ → ℕ → Matrix → Matrix
 clearedBelow size h k m = forRange (clearRow (row m h) size k) (h + 1) size m
 
@@ -94,7 +94,7 @@ echelonColumn size k s =
     let i = pivotRow size (s .0) k (s .1) in
     cond (eq (entry (s .1) i k) f64Zero) s (s .0 + 1, clearedBelow size (s .0) k (swapped (s .0) i (s .1)))
 
--- while h < m && k < n: each turn has the next k, and h goes up with k or stays, so the columns end the loop
+-- while h < m && k < n: each turn has the next k, and the columns end the loop (theorem `rows-never-end-first`)
 unfoldable pub echeloned : ℕ → Matrix → Matrix
 echeloned size m = forRange (echelonColumn size) 0 size (0, m) .1
 
@@ -129,7 +129,7 @@ reduced size m = forRangeDown (atFirstNonzero (divideRow size) size) size m
 abbrev pub clearRowAbove : Vector → ℕ → ℕ → ℕ → Matrix → Matrix
 clearRowAbove p size j k m = rowSubtracted p size k 0 (div binary64 (entry m k j) (getD p j nan)) m
 
--- each k in 0..i
+-- each k in 0..i. Row i is p throughout (theorem `found-row-stays`).
 unfoldable pub clearedAbove : ℕ → ℕ → ℕ → Matrix → Matrix
 clearedAbove size i j m = forRange (clearRowAbove (row m i) size j) 0 i m
 

@@ -52,12 +52,11 @@ fn swap_rows(m: &mut [[f64; 21]; 20], i: usize, j: usize)
 }
 
 // One try, with eps on the diagonal.
-fn solve_inner(system: [[f64; 21]; 20], size: usize, eps: f64) -> Solution
+fn solve_inner(left: &[[f64; 20]; 20], right: &[f64; 20], size: usize, eps: f64) -> Solution
     requires { ⌜ size ≤ 20 ⌝ }
-    ensures { λ r. ⌜ r ≡ attempt size eps system ⌝ }
+    ensures { λ r. ⌜ r ≡ attempt size eps (joined (now (left .entry)) (now (right .entry)) size) ⌝ }
 {
-    let filled = fill_zero(system, size, eps);
-    let upper = echelon(filled, size);
+    let upper = upper_form(left, right, size, eps);
     let ones = reduce(upper, size);
     let done = backfill(ones, size);
     if left_solved(&done, size) {
@@ -68,6 +67,18 @@ fn solve_inner(system: [[f64; 21]; 20], size: usize, eps: f64) -> Solution
         };
     }
     refused(Refusal::Unsolved)
+}
+
+// The table of the system after the first two stages. Beside the other two the compiler would copy it between these.
+fn upper_form(left: &[[f64; 20]; 20], right: &[f64; 20], size: usize, eps: f64) -> [[f64; 21]; 20]
+    requires { ⌜ size ≤ 20 ⌝ }
+    ensures { λ r.
+        let system = joined (now (left .entry)) (now (right .entry)) size in
+        ⌜ r ≡ echeloned size (diagonalFilled size eps system) ⌝ }
+{
+    let system = join(left, right, size);
+    let filled = fill_zero(system, size, eps);
+    echelon(filled, size)
 }
 
 // The right-hand numbers, and 0 past the size.
@@ -94,10 +105,17 @@ fn refused(refusal: Refusal) -> Solution
 }
 
 // The answer at the first eps that solves the system: 1E-8, then ten times the last, rounded, while it is at most 1;
-// each try starts from the system itself. Entries past the size are not read. Question 3 is asked here: asked by a
-// function of its own, it made the compiler copy the table three times more.
+// each try starts from the system itself. Entries past the size are not read.
 pub fn solve(left: [[f64; 20]; 20], right: [f64; 20], size: usize) -> Solution
     ensures { λ r. ⌜ r ≡ solution left right size ⌝ }
+{
+    solve_at(&left, &right, size)
+}
+
+// That, of a system that is read where it is, without a copy. Question 3 is asked here: asked by a function of its own,
+// it makes the compiler copy the table six times.
+pub fn solve_at(left: &[[f64; 20]; 20], right: &[f64; 20], size: usize) -> Solution
+    ensures { λ r. ⌜ r ≡ solution (now (left .entry)) (now (right .entry)) size ⌝ }
 {
     if size == 0 {
         return refused(Refusal::OutOfRange);
@@ -105,10 +123,9 @@ pub fn solve(left: [[f64; 20]; 20], right: [f64; 20], size: usize) -> Solution
     if 20 < size {
         return refused(Refusal::OutOfRange);
     }
-    let system = join(left, right, size);
     let mut eps = 1E-8;
     while eps <= 1.0 {
-        let attempt = solve_inner(system, size, eps);
+        let attempt = solve_inner(left, right, size, eps);
         let answer = attempt.answer;
         if let Solved::Answer = answer {
             return attempt;
@@ -119,9 +136,9 @@ pub fn solve(left: [[f64; 20]; 20], right: [f64; 20], size: usize) -> Solution
 }
 
 // The table of a system: each row of `left` up to the size, with its number of `right`.
-fn join(left: [[f64; 20]; 20], right: [f64; 20], size: usize) -> [[f64; 21]; 20]
+fn join(left: &[[f64; 20]; 20], right: &[f64; 20], size: usize) -> [[f64; 21]; 20]
     requires { ⌜ size ≤ 20 ⌝ }
-    ensures { λ r. ⌜ r ≡ joined left right size ⌝ }
+    ensures { λ r. ⌜ r ≡ joined (now (left .entry)) (now (right .entry)) size ⌝ }
 {
     let mut m = [[0.0; 21]; 20];
     for i in 0..size {

@@ -15,7 +15,7 @@ pub extern "C" fn vayemuku_solve(
         let solved = solution (now (left .entry)) (now (right .entry)) size in
         ⌜ r and now (values .exit) ≡ solvedNumber (solved .answer) and solved .values ⌝ }
 {
-    let solved = gauss::solve(*left, *right, size);
+    let solved = gauss::solve_at(left, right, size);
     let numbers = solved.values;
     *values = numbers;
     let answer = solved.answer;

@@ -12,16 +12,16 @@ use Rattle.gauss.proofs.join.Statement.{statement}
 use Rattle.gauss.proofs.join.Tie as tie
 
 abbrev Inv-loop2 : tie.InvT-loop2
-Inv-loop2 size left right m₀ i j₀ m j = Walk (λ j. setEntry i j (entry left i j)) 0 j size m₀ m
+Inv-loop2 left right size m₀ i j₀ m j = Walk (λ j. setEntry i j (entry left i j)) 0 j size m₀ m
 
 abbrev μ-loop2 : tie.MeasureT-loop2
-μ-loop2 size left right m₀ i j₀ m j = size - j
+μ-loop2 left right size m₀ i j₀ m j = size - j
 
 abbrev Inv-loop : tie.InvT-loop
-Inv-loop size left right m₀ i₀ m i = Walk (joinRow left right size) 0 i size m₀ m
+Inv-loop left right size m₀ i₀ m i = Walk (joinRow left right size) 0 i size m₀ m
 
 abbrev μ-loop : tie.MeasureT-loop
-μ-loop size left right m₀ i₀ m i = size - i
+μ-loop left right size m₀ i₀ m i = size - i
 
 loop-holds : tie.Need-loop-holds Inv-loop2 μ-loop2 Inv-loop μ-loop
 loop-holds c = start (search needs)
@@ -34,9 +34,9 @@ loop2-again c = step (c .before .before .loop2 .inv) (search needs)
 
 loop-again : tie.Need-loop-again Inv-loop2 μ-loop2 Inv-loop μ-loop
 loop-again c =
-    let w = c .before .before .before .loop in
-    let right = c .before .before .before .before .args .t2 in
-    step-by (w .inv) (search needs) (ap (setEntry (w .i) 20 (getD right (w .i) nan)) (done (c .before .loop2 .inv) (search needs)))
+    let w = c .before .before .before .before .loop in
+    let right = c .before .before .before .before .before .args .right .now in
+    step-by (w .inv) (search needs) (ap (setEntry (w .i) 20 (getD right (w .i) nan)) (done (c .before .before .loop2 .inv) (search needs)))
 
 returns : tie.Need-returns Inv-loop2 μ-loop2 Inv-loop μ-loop
 unfolding joined

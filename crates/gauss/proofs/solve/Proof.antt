@@ -1,76 +1,9 @@
--- `gauss::solve` meets its contract. The invariant (`Trying`): eps is that of some try, and no try before it solves the
--- system; the measure is how many tries are left.
-use Rattle.gauss.proofs.Epsilons.{triesLeft}
-use Rattle.gauss.proofs.Solving.{Trying, trying-start, trying-step, trying-less, trying-found, trying-none, in-range, size-zero, size-large}
-use mathlib.Core.Path.{_≡_}
-use Rattle.gauss.specs.declared.Solution.{Solution}
-use Rattle.gauss.specs.Solutions.{firstAnswer, solution}
-use borrow.Author.Needs.{needs}
+-- `gauss::solve` meets its contract, which is that of `solve_at`.
 use Rattle.gauss.proofs.solve.Statement.{statement}
 use Rattle.gauss.proofs.solve.Tie as tie
 
-abbrev Inv-loop : tie.InvT-loop
-Inv-loop size system eps₀ eps = Trying size system eps
-
-abbrev μ-loop : tie.MeasureT-loop
-μ-loop size system eps₀ eps = triesLeft eps
-
-returns : tie.Need-returns Inv-loop μ-loop
-returns c =
-    let a = c .before .before .args in
-    size-zero (a .left) (a .right) (a .size) (c .before .if1 .taken) (c .refused .ensures)
-
-returns-2 : tie.Need-returns-2 Inv-loop μ-loop
-returns-2 c =
-    let a = c .before .before .before .args in
-    size-large (a .left) (a .right) (a .size) (c .before .if2 .taken) (c .refused2 .ensures)
-
-loop-holds : tie.Need-loop-holds Inv-loop μ-loop
-loop-holds c = trying-start
-
--- past the questions on the size, the first answer is the whole of it
-accepted : (c : tie.After-join Inv-loop μ-loop) {r : Solution}
-    → let a = c .before .before .before .args in r ≡ firstAnswer (a .size) (c .join .result)
-    → r ≡ solution (a .left) (a .right) (a .size)
-accepted c =
-    let a = c .before .before .before .args in
-    in-range (a .left) (a .right) (a .size) (c .before .before .if1 .left) (c .before .if2 .left) (c .join .ensures)
-
-returns-3 : tie.Need-returns-3 Inv-loop μ-loop
-returns-3 c =
-    let turn = c .before .before .before in
-    accepted (turn .before .before) (trying-found (turn .before .loop .inv) (turn .loop-test .taken) (c .before .before .solve-inner .ensures) (c .enum-told .given .1))
-
-loop-less : tie.Need-loop-less Inv-loop μ-loop
-loop-less c =
-    let turn = c .before .before .before in
-    trying-less (turn .before .loop .inv) (turn .loop-test .taken)
-
-loop-again : tie.Need-loop-again Inv-loop μ-loop
-loop-again c =
-    let turn = c .before .before .before in
-    trying-step (turn .before .loop .inv) (turn .loop-test .taken) (c .before .before .solve-inner .ensures) (c .enum-told2 .given .1)
-
-returns-4 : tie.Need-returns-4 Inv-loop μ-loop
-returns-4 c = accepted (c .before .before .before) (trying-none (c .before .before .loop .inv) (c .before .loop-test .left) (c .refused3 .ensures))
+returns : tie.Need-returns
+returns c = c .solve-at .ensures
 
 pub solve-spec : {M : Type 1} → statement M
-solve-spec =
-    tie.close
-    (tie.spec
-    Inv-loop
-    μ-loop
-    (λ c κs. search needs)
-    returns
-    (λ c κs. search needs)
-    returns-2
-    (λ c κs. search needs)
-    loop-holds
-    (λ c κs. search needs)
-    (λ c. search needs)
-    returns-3
-    (λ c. search needs)
-    loop-less
-    loop-again
-    (λ c κs. search needs)
-    returns-4)
+solve-spec = tie.close (tie.spec (λ c κs. tt) returns)
