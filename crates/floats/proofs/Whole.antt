@@ -237,8 +237,10 @@ stored false q h = toZ-ofZ w64 (pos q) (record { sfits = h })
 stored true zero h = toZ-ofZ w64 (pos 0) (record { sfits = h })
 stored true (suc k) h = toZ-ofZ w64 (negsuc k) (record { sfits = le-of-lt h })
 
-cut-inside : (f : Format) (x : Float) (z : ℤ) → T (fits f x) → Inside f x → z ≡ toSigned 63 x
-    → Cut f x (toZ w64 (ofZ w64 z))
+abbrev pub StoredCut : Format → Float → ℤ → Type 0
+StoredCut f x z = Cut f x (toZ w64 (ofZ w64 z))
+
+cut-inside : (f : Format) (x : Float) (z : ℤ) → T (fits f x) → Inside f x → z ≡ toSigned 63 x → StoredCut f x z
 cut-inside f (fin s m e) z t h k =
     let q = m * up e / down e in
     let small : q < 2 ^ (prec f - 1) = div-lt-iff-lt-mul (down-pos e) .1 h in
@@ -251,7 +253,7 @@ pub record FloorCode (f : Format) (x : Float) : Type 0 where
   pub castable : lt x (wholeLimit f false) ≡ true → lt (wholeLimit f true) x ≡ true
       → T (le (fin true 1 (pos 63)) x) × T (lt x (fin false 1 (pos 63)))
   pub cut : lt x (wholeLimit f false) ≡ true → lt (wholeLimit f true) x ≡ true → {z : ℤ} → z ≡ toSigned 63 x
-      → Cut f x (toZ w64 (ofZ w64 z))
+      → StoredCut f x z
 
 pub floor-code : (f : Format) (x : Float) → fits f x ≡ true → FloorCode f x
 floor-code f x e = let t = passes (fits f x) e in record {

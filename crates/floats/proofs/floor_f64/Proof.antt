@@ -1,9 +1,7 @@
 -- `floats::floor_f64` is `floored`, by what `floor-code` says of its tests and answers. The tests give their numbers by
 -- bits, which compute under `unfolding ofBits neg`.
-use mir.Syntax.{w64}
-use mir.Val.{toZ, ofZ}
 use lib.Ieee.{binary64, ofBits, neg}
-use Rattle.floats.proofs.Whole.{FloorCode, Cut, floor-code}
+use Rattle.floats.proofs.Whole.{FloorCode, StoredCut, floor-code}
 use Rattle.floats.proofs.floor_f64.Statement.{statement}
 use Rattle.floats.proofs.floor_f64.Tie as tie
 
@@ -11,8 +9,7 @@ code : (c : tie.Start) → FloorCode binary64 (c .args .x)
 code c = floor-code binary64 (c .args .x) (c .good .0 .1)
 
 known : (c : tie.After-row-known)
-    → Cut binary64 (c .before .before .before .before .args .x)
-    (toZ w64 (ofZ w64 (c .before .truncating-f64-to-i64 .result)))
+    → StoredCut binary64 (c .before .before .before .before .args .x) (c .before .truncating-f64-to-i64 .result)
 unfolding ofBits neg
 known c =
     let d = c .before .before in code (d .before .before) .cut (d .before .if1 .taken) (d .if2 .taken) (c .before .truncating-f64-to-i64 .ensures)
