@@ -31,7 +31,7 @@ use Rattle.fdr.specs.NameQValues.{nameOf, qOf, rowQ, rowsQ}
 use Rattle.fdr.specs.Inner.Passes.{sideKey, keySide, withNumbers, keyNumber, cappedRatios, writtenAtNames, readAtName, SlotInBounds, NamesInBounds, NumberBits, HoldsNumber, RatiosReady, AssignReady}
 use Rattle.fdr.proofs.Numbers.{F32Number, ratios-fit, capped-numbers, minimum-numbers, length-ratios, hold-numbers, numbers-back, payload-stays, places-stay, written-over, running-minimum-capped}
 use Rattle.fdr.proofs.NameColumn.{name-in-bounds, names-read, names-bits, ones-bits, length-names, slots-in-bounds}
-use Rattle.fdr.proofs.Sides.{Listed, targets-sorted, seen-listed, listed-in-bounds, few-targets, sorted-sides}
+use Rattle.fdr.proofs.Sides.{targets-sorted, seen-listed, seen-fit, listed-in-bounds, few-targets, sorted-sides}
 
 -- ---- the ranking and the two passes over its rows
 
@@ -131,11 +131,8 @@ module _ {bins : List Float} {t : Table} {slots : List ℕ} {labels : List ℤ} 
   part : length (take rows keys₁) ≡ rows
   part = length-take-le rows keys₁ (omega (arith, w .few, w .same))
 
-  listed : Listed t 0 (length (t .forward) * 2) (seenSides t)
-  listed = seen-listed t (w .forward-fit) (w .reverse-fit)
-
   in-bounds : All (SlotInBounds (length (t .forward))) (take rows keys₁)
-  in-bounds = rw (w .front) (listed-in-bounds t 0 (length (t .forward)) (seenSides t) (w .ready .pack .short) listed)
+  in-bounds = rw (w .front) (listed-in-bounds t 0 (length (t .forward)) (seenSides t) (w .ready .pack .short) (seen-listed t))
 
   -- what `rank` asks
   pub rank-asks : (length (take rows spare₀) ≡ length (take rows keys₁))
@@ -155,7 +152,7 @@ module _ {bins : List Float} {t : Table} {slots : List ℕ} {labels : List ℤ} 
   ks = sorted (take rows keys₁)
 
   ranked-are : map (keySide t) ks ≡ rankedSides t
-  ranked-are = ap (λ (l : List ℕ). map (keySide t) (sorted l)) (w .front) ∙ sorted-sides t (w .ready .pack .short) listed
+  ranked-are = ap (λ (l : List ℕ). map (keySide t) (sorted l)) (w .front) ∙ sorted-sides t (w .ready .pack .short) (seen-fit t (w .forward-fit) (w .reverse-fit))
 
   module _ {settings : Settings} {count : ℕ} {part₁ spare₁ : List ℕ}
       (r : Ranks settings bins t (take rows keys₁) (take rows spare₀) count part₁ spare₁) where

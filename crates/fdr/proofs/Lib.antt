@@ -6,4 +6,5 @@ pub mod Minima
 pub mod NameColumn
 pub mod Joined
 pub mod Questions
+pub mod SideNames
 pub mod Points

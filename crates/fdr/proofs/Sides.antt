@@ -42,12 +42,16 @@ targets-sorted (x ∷ xs) = targets-insert x (sorted xs) ∙ ap (λ (n : ℕ). 1
 
 -- ---- the list of seen sides
 
--- a side's payload is from lo on and below hi; the side is the table's, and its score is of the format
+-- a side's mark
+abbrev pub markOf : Table → ℕ → Bool → ℕ
+markOf t slot decoy = cond decoy (getD (t .reverseSeen) slot 0) (getD (t .forwardSeen) slot 0)
+
+-- a side's payload is from lo on and below hi; the side is the table's, and seen
 pub record OfTable (t : Table) (lo hi : ℕ) (s : Side) : Type 0 where
   pub low : lo ≤ sidePayload s
   pub high : sidePayload s < hi
   pub of : sideOf t (s .slot) (s .decoy) ≡ s
-  pub fit : T (fits binary32 (s .score))
+  pub seen : T (isSeen (markOf t (s .slot) (s .decoy)))
 
 -- and the payloads rise
 abbrev pub Listed : Table → ℕ → ℕ → List Side → Type 0
@@ -56,35 +60,36 @@ Listed t lo hi (s ∷ ss) = OfTable t lo hi s × Listed t (suc (sidePayload s)) 
 
 listed-down : (t : Table) (lo lo′ hi : ℕ) (ss : List Side) → lo′ ≤ lo → Listed t lo hi ss → Listed t lo′ hi ss
 listed-down t lo lo′ hi [] h w = tt
-listed-down t lo lo′ hi (s ∷ ss) h w = let o = w .0 in (record { low = le-trans h (o .low); high = o .high; of = o .of; fit = o .fit }, w .1)
+listed-down t lo lo′ hi (s ∷ ss) h w = let o = w .0 in (record { low = le-trans h (o .low); high = o .high; of = o .of; seen = o .seen }, w .1)
 
-module _ (t : Table) (forward-fit : (i : ℕ) → T (fits binary32 (getD (t .forward) i nan)))
-    (reverse-fit : (i : ℕ) → T (fits binary32 (getD (t .reverse) i nan))) where
-  of-forward : (slot hi : ℕ) → slot * 2 + 1 < hi → OfTable t (slot * 2) hi (sideOf t slot false)
-  of-forward slot hi h = record { low = omega arith; high = omega arith; of = refl; fit = forward-fit slot }
+of-forward : (t : Table) (slot hi : ℕ) → T (isSeen (markOf t slot false)) → slot * 2 + 1 < hi
+    → OfTable t (slot * 2) hi (sideOf t slot false)
+of-forward t slot hi m h = record { low = omega arith; high = omega arith; of = refl; seen = m }
 
-  of-reverse : (slot lo hi : ℕ) → lo ≤ slot * 2 + 1 → slot * 2 + 1 < hi → OfTable t lo hi (sideOf t slot true)
-  of-reverse slot lo hi l h = record { low = l; high = h; of = refl; fit = reverse-fit slot }
+of-reverse : (t : Table) (slot lo hi : ℕ) → T (isSeen (markOf t slot true)) → lo ≤ slot * 2 + 1 → slot * 2 + 1 < hi
+    → OfTable t lo hi (sideOf t slot true)
+of-reverse t slot lo hi m l h = record { low = l; high = h; of = refl; seen = m }
 
-  pub sides-listed : (slot k hi : ℕ) → (slot + k) * 2 ≤ hi → Listed t (slot * 2) hi (sidesFrom t slot k)
-  unfolding sidesFrom
-  sides-listed slot zero hi h = tt
-  sides-listed slot (suc k) hi h =
-      go (isSeen (getD (t .forwardSeen) slot 0)) (isSeen (getD (t .reverseSeen) slot 0)) (sidesFrom t (suc slot) k) (sides-listed (suc slot) k hi (omega arith))
-    where
-      last : slot * 2 + 1 < hi
-      last = omega arith
+sides-listed : (t : Table) (slot k hi : ℕ) → (slot + k) * 2 ≤ hi → Listed t (slot * 2) hi (sidesFrom t slot k)
+unfolding sidesFrom
+sides-listed t slot zero hi h = tt
+sides-listed t slot (suc k) hi h =
+    go (isSeen (markOf t slot false)) (isSeen (markOf t slot true)) (λ m. m) (λ m. m) (sidesFrom t (suc slot) k) (sides-listed t (suc slot) k hi (omega arith))
+  where
+    last : slot * 2 + 1 < hi
+    last = omega arith
 
-      go : (f r : Bool) (later : List Side) → Listed t (suc slot * 2) hi later
-          → Listed t (slot * 2) hi ((cond f (sideOf t slot false ∷ []) [] ++ cond r (sideOf t slot true ∷ []) []) ++
-          later)
-      go true true later w = (of-forward slot hi last, (of-reverse slot (suc (slot * 2 + 0)) hi (omega arith) last, listed-down t (suc slot * 2) (suc (slot * 2 + 1)) hi later (omega arith) w))
-      go true false later w = (of-forward slot hi last, listed-down t (suc slot * 2) (suc (slot * 2 + 0)) hi later (omega arith) w)
-      go false true later w = (of-reverse slot (slot * 2) hi (omega arith) last, listed-down t (suc slot * 2) (suc (slot * 2 + 1)) hi later (omega arith) w)
-      go false false later w = listed-down t (suc slot * 2) (slot * 2) hi later (omega arith) w
+    go : (f r : Bool) → (T f → T (isSeen (markOf t slot false))) → (T r → T (isSeen (markOf t slot true)))
+        → (later : List Side) → Listed t (suc slot * 2) hi later
+        → Listed t (slot * 2) hi ((cond f (sideOf t slot false ∷ []) [] ++ cond r (sideOf t slot true ∷ []) []) ++
+        later)
+    go true true m n later w = (of-forward t slot hi (m tt) last, (of-reverse t slot (suc (slot * 2 + 0)) hi (n tt) (omega arith) last, listed-down t (suc slot * 2) (suc (slot * 2 + 1)) hi later (omega arith) w))
+    go true false m n later w = (of-forward t slot hi (m tt) last, listed-down t (suc slot * 2) (suc (slot * 2 + 0)) hi later (omega arith) w)
+    go false true m n later w = (of-reverse t slot (slot * 2) hi (n tt) (omega arith) last, listed-down t (suc slot * 2) (suc (slot * 2 + 1)) hi later (omega arith) w)
+    go false false m n later w = listed-down t (suc slot * 2) (slot * 2) hi later (omega arith) w
 
-  pub seen-listed : Listed t 0 (length (t .forward) * 2) (seenSides t)
-  seen-listed = sides-listed 0 (length (t .forward)) (length (t .forward) * 2) (omega arith)
+pub seen-listed : (t : Table) → Listed t 0 (length (t .forward) * 2) (seenSides t)
+seen-listed t = sides-listed t 0 (length (t .forward)) (length (t .forward) * 2) (omega arith)
 
 -- ---- one of them
 
@@ -114,16 +119,28 @@ listed-at t lo hi (s ∷ ss) w (suc p) h =
     let l : lo ≤ suc (sidePayload s) = omega (arith, w .0 .low) in
     listed-at t lo hi ss (listed-down t (suc (sidePayload s)) lo hi ss l (w .1)) p (le-of-suc-le-suc h)
 
-listed-rises : (t : Table) (lo hi : ℕ) (ss : List Side) → Listed t lo hi ss → (p q : ℕ) → p < q → q < length ss
+pub listed-rises : (t : Table) (lo hi : ℕ) (ss : List Side) → Listed t lo hi ss → (p q : ℕ) → p < q → q < length ss
     → payloadAt t ss p < payloadAt t ss q
 listed-rises t lo hi [] w p q l h = absurd (not-suc-le-zero h)
 listed-rises t lo hi (s ∷ ss) w p zero l h = absurd (not-suc-le-zero l)
 listed-rises t lo hi (s ∷ ss) w zero (suc q) l h = listed-at t (suc (sidePayload s)) hi ss (w .1) q (le-of-suc-le-suc h) .low
 listed-rises t lo hi (s ∷ ss) w (suc p) (suc q) l h = listed-rises t (suc (sidePayload s)) hi ss (w .1) p q (le-of-suc-le-suc l) (le-of-suc-le-suc h)
 
-listed-fit : (t : Table) (lo hi : ℕ) (ss : List Side) → Listed t lo hi ss → AllF32 (map (λ (s : Side). s .score) ss)
-listed-fit t lo hi [] w = tt
-listed-fit t lo hi (s ∷ ss) w = (w .0 .fit, listed-fit t (suc (sidePayload s)) hi ss (w .1))
+-- ---- scores of the format
+
+module _ (t : Table) (forward-fit : (i : ℕ) → T (fits binary32 (getD (t .forward) i nan)))
+    (reverse-fit : (i : ℕ) → T (fits binary32 (getD (t .reverse) i nan))) where
+  side-fit : (slot : ℕ) (decoy : Bool) → T (fits binary32 (sideOf t slot decoy .score))
+  side-fit slot true = reverse-fit slot
+  side-fit slot false = forward-fit slot
+
+  listed-fit : (lo hi : ℕ) (ss : List Side) → Listed t lo hi ss → AllF32 (map (λ (s : Side). s .score) ss)
+  listed-fit lo hi [] w = tt
+  listed-fit lo hi (s ∷ ss) w =
+      (subst (λ (x : Side). T (fits binary32 (x .score))) (w .0 .of) (side-fit (s .slot) (s .decoy)), listed-fit (suc (sidePayload s)) hi ss (w .1))
+
+  pub seen-fit : AllF32 (map (λ (s : Side). s .score) (seenSides t))
+  seen-fit = listed-fit 0 (length (t .forward) * 2) (seenSides t) (seen-listed t)
 
 -- ---- the keys
 
@@ -164,12 +181,13 @@ as-packed payloads a t (s ∷ ss) h =
 -- ---- ranked rows
 
 -- the keys in ascending order are of the ranked sides
-pub sorted-sides : (t : Table) → length (t .forward) ≤ longest → Listed t 0 (length (t .forward) * 2) (seenSides t)
+pub sorted-sides : (t : Table) → length (t .forward) ≤ longest → AllF32 (map (λ (s : Side). s .score) (seenSides t))
     → map (keySide t) (sorted (map sideKey (seenSides t))) ≡ rankedSides t
 unfolding rankedSides
-sorted-sides t short w =
+sorted-sides t short fit =
     let sides = seenSides t in
     let hi = length (t .forward) * 2 in
+    let w = seen-listed t in
     let scores = map (λ (s : Side). s .score) sides in
     let many : length scores ≡ length sides = length-map sides (λ (s : Side). s .score) in
     let up : Rising (payloadAt t sides) 0 (0 + length scores) = record {
@@ -177,12 +195,12 @@ sorted-sides t short w =
       small = λ p a h. small p (omega arith);
     } in
     ap (λ (ks : List ℕ). map (keySide t) (sorted ks)) (as-packed (payloadAt t sides) 0 t sides (λ i l. ap (payloadAt t sides) (zero-add i)))
-    ∙ ap (map (keySide t)) (sorted-ranks (payloadAt t sides) 0 scores up (listed-fit t 0 hi sides w))
+    ∙ ap (map (keySide t)) (sorted-ranks (payloadAt t sides) 0 scores up fit)
     ∙ map-map (keySide t) (λ (r : Row). packed (r .score) (payloadAt t sides (r .place))) (ranked scores)
     ∙ go (ranked scores) (subst (λ (n : ℕ). All (λ r. r .place < n) (ranked scores)) many (in-list scores))
   where
     small : (p : ℕ) → p < length (seenSides t) → payloadAt t (seenSides t) p < 4294967296
-    small p h = omega (arith, listed-at t 0 (length (t .forward) * 2) (seenSides t) w p h .high)
+    small p h = omega (arith, listed-at t 0 (length (t .forward) * 2) (seenSides t) (seen-listed t) p h .high)
 
     go : (rows : List Row) → All (λ r. r .place < length (seenSides t)) rows
         → map (λ r. keySide t (packed (r .score) (payloadAt t (seenSides t) (r .place)))) rows
@@ -190,5 +208,5 @@ sorted-sides t short w =
     go [] v = refl
     go (r ∷ rows) v =
         let hi = length (t .forward) * 2 in
-        ap₂ _∷_ (key-side t 0 hi (r .score) (getD (seenSides t) (r .place) (sideOf t 0 false)) (omega arith) (listed-at t 0 hi (seenSides t) w (r .place) (v .0)))
+        ap₂ _∷_ (key-side t 0 hi (r .score) (getD (seenSides t) (r .place) (sideOf t 0 false)) (omega arith) (listed-at t 0 hi (seenSides t) (seen-listed t) (r .place) (v .0)))
         (go rows (v .1))

@@ -21,7 +21,6 @@ use lib.Ieee.Nearest.{div-mono}
 use lib.Ieee.Positive.{num, den}
 use Rattle.floats.specs.Signs.{negative}
 use Rattle.floats.specs.TotalOrder.{before, compared, orderKey}
-use Rattle.floats.specs.declared.Ordering.{Ordering}
 use Rattle.floats.specs.declared.Ordering.the-variants.{Less, Equal, Greater}
 use denote.Floats.{passes}
 use Rattle.folds.proofs.Tests.{same-test, yes-or-no, or-split, or-l}
@@ -324,8 +323,9 @@ key-nan f x e = rw (differs-from-itself x (passes _ e))
 abbrev pub signPart : ℕ → ℕ → ℕ
 signPart t b = b % t + t - b / t * (b % t + b % t + 1)
 
-pub key-split : (f : Format) (x : Float) → T (fits f x) → orderKey f x ≡ signPart (top f) (toBits f x)
-key-split f x p = key-is f x ∙ go (top f) (negative x) (toBits f (absolute x)) (toBits f x) (bits-sign f x) (magnitude-lt f x p)
+pub key-split : (f : Format) (x : Float) → fits f x ≡ true → orderKey f x ≡ signPart (top f) (toBits f x)
+key-split f x p =
+    key-is f x ∙ go (top f) (negative x) (toBits f (absolute x)) (toBits f x) (bits-sign f x) (magnitude-lt f x (passes _ p))
   where
     go : (t : ℕ) (s : Bool) (a b : ℕ) → b ≡ cond s t 0 + a → a < t → keyOf t s a ≡ signPart t b
     go t true a b e l =
@@ -340,24 +340,34 @@ top-pos : (f : Format) → 0 < top f
 top-pos binary32 = lit< tt
 top-pos binary64 = lit< tt
 
-pub signed-fits : (f : Format) (x : Float) → T (fits f x)
+pub signed-fits : (f : Format) (x : Float) → fits f x ≡ true
     → toBits f x / top f * (toBits f x % top f + toBits f x % top f + 1) ≤ toBits f x % top f + top f
-signed-fits f x p = go (toBits f x / top f) (toBits f x % top f) (div-lt-iff-lt-mul (top-pos f) .1 (toBits-lt f x p)) (mod-lt (toBits f x) (top-pos f))
+signed-fits f x p = go (toBits f x / top f) (toBits f x % top f) (div-lt-iff-lt-mul (top-pos f) .1 (toBits-lt f x (passes _ p))) (mod-lt (toBits f x) (top-pos f))
   where
     go : (q r : ℕ) → q < 2 → r < top f → q * (r + r + 1) ≤ r + top f
     go zero r a b = rw zero-mul zero-le
     go (suc q) r a b = let z : q ≡ 0 = omega arith in rw (z, one-mul) (omega arith)
 
-pub signed-below : (f : Format) (x : Float) → T (fits f x)
+pub signed-below : (f : Format) (x : Float) → fits f x ≡ true
     → toBits f x / top f * (toBits f x % top f + toBits f x % top f + 1) < 2 * top f
 signed-below f x p = omega (arith, signed-fits f x p, mod-lt (toBits f x) (top-pos f))
 
--- where the number a stands to b
-abbrev pub comparedNumbers : ℕ → ℕ → Ordering
-comparedNumbers a b = cond (ltb a b) Less (cond (ltb b a) Greater Equal)
+-- two floats compare as their keys a and b do: the answer by each test of the code
+pub record ByKeys (x y : Float) (a b : ℕ) : Type 0 where
+  pub less : a < b → Less ≡ compared x y
+  pub greater : b ≤ a → b < a → Greater ≡ compared x y
+  pub equal : b ≤ a → a ≤ b → Equal ≡ compared x y
 
--- two floats compare as their keys do
-pub compared-by-key : (f : Format) (x y : Float) (a b : ℕ) → T (fits f x) → T (fits f y) → a ≡ orderKey f x
-    → b ≡ orderKey f y → compared x y ≡ comparedNumbers a b
+compared-is : (f : Format) (x y : Float) → T (fits f x) → T (fits f y)
+    → compared x y
+    ≡ cond (ltb (orderKey f x) (orderKey f y)) Less (cond (ltb (orderKey f y) (orderKey f x)) Greater Equal)
 unfolding compared
-compared-by-key f x y a b p q i j = rw (i, j, key-orders f x y p q, key-orders f y x q p)
+compared-is f x y p q = rw (key-orders f x y p q, key-orders f y x q p)
+
+pub by-keys : (f : Format) {x y : Float} {a b : ℕ} → fits f x ≡ true → fits f y ≡ true → a ≡ orderKey f x
+    → b ≡ orderKey f y → ByKeys x y a b
+by-keys f {x} {y} {a} {b} p q i j = let e = compared-is f x y (passes _ p) (passes _ q) in record {
+  less = λ h. rw (e, ← i, ← j, lt-ltb a b h);
+  greater = λ h l. rw (e, ← i, ← j, le-ltb a b h, lt-ltb b a l);
+  equal = λ h l. rw (e, ← i, ← j, le-ltb a b h, le-ltb b a l);
+}

@@ -12,6 +12,10 @@ use lib.IntN.{ℤ, pos, negsuc, negℤ}
 use lib.Dec.{T, ltb, eqb, le→leb, leb→le, lt→ltb, lit≤, lit<}
 use lib.Arith.{lt-of-le-ne}
 use lib.Pow.{pow-pos}
+use mir.Syntax.{w64}
+use mir.Val.{toZ, ofZ}
+use mir.ValLaws.{toZ-ofZ}
+use denote.Floats.{passes}
 use lib.Ieee.{Float, nan, inf, fin, Format, binary32, binary64, prec, up, down, below, level, round, neg, sub, lt, le, eq}
 use lib.Ieee.{ofInt, toSigned, toUnsigned, inFloat, fits}
 use lib.Ieee.Fits.{down-pos, neg-fits}
@@ -75,7 +79,7 @@ never : (p a d : ℕ) → 0 < p → 0 < d → ltb 0 (1 * p * d + a * 1) ≡ fals
 never p a d P D h = omega (arith, ltb-false 0 (1 * p * d + a * 1) h, one-mul p, mul-pos P D)
 
 -- x from the limit on, a NaN and +infinity included
-pub floor-above : (f : Format) (x : Float) → T (fits f x) → lt x (wholeLimit f false) ≡ false → x ≡ floored f x
+floor-above : (f : Format) (x : Float) → T (fits f x) → lt x (wholeLimit f false) ≡ false → x ≡ floored f x
 unfolding lt floored
 floor-above f nan t h = refl
 floor-above f (inf s) t h = refl
@@ -83,7 +87,7 @@ floor-above f (fin true m e) t h = absurd (never (2 ^ (prec f - 1)) (m * up e) (
 floor-above f (fin false m e) t h = sym (large f false m e t (bare (2 ^ (prec f - 1)) (m * up e) (down e) h))
 
 -- x down from the negative limit, a NaN and −infinity included
-pub floor-below : (f : Format) (x : Float) → T (fits f x) → lt (wholeLimit f true) x ≡ false → x ≡ floored f x
+floor-below : (f : Format) (x : Float) → T (fits f x) → lt (wholeLimit f true) x ≡ false → x ≡ floored f x
 unfolding lt floored
 floor-below f nan t h = refl
 floor-below f (inf s) t h = refl
@@ -193,12 +197,12 @@ module _ (f : Format) (m : ℕ) (e : ℤ) (q : ℕ) (is : m * up e / down e ≡ 
 
 -- ---- the two tests that lead there, and what they are worth
 -- finite, and below the limit in size
-abbrev pub Inside : Format → Float → Type 0
+abbrev Inside : Format → Float → Type 0
 Inside f nan = ⊥
 Inside f (inf s) = ⊥
 Inside f (fin s m e) = m * up e < 2 ^ (prec f - 1) * down e
 
-pub inside : (f : Format) (x : Float) → lt x (wholeLimit f false) ≡ true → lt (wholeLimit f true) x ≡ true → Inside f x
+inside : (f : Format) (x : Float) → lt x (wholeLimit f false) ≡ true → lt (wholeLimit f true) x ≡ true → Inside f x
 unfolding lt
 inside f nan h k = absurd (false≢true h)
 inside f (inf true) h k = absurd (false≢true k)
@@ -214,7 +218,7 @@ wider : (f : Format) (m : ℕ) (e : ℤ) → Inside f (fin false m e) → m * up
 wider f m e h = rw mul-one (lt-of-lt-of-le h (mul-le-mul-right (down e) (le-of-lt (in-63 f))))
 
 -- what the conversion to i64 asks
-pub castable : (f : Format) (x : Float) → Inside f x → T (le (fin true 1 (pos 63)) x) × T (lt x (fin false 1 (pos 63)))
+castable : (f : Format) (x : Float) → Inside f x → T (le (fin true 1 (pos 63)) x) × T (lt x (fin false 1 (pos 63)))
 unfolding le
 castable f (fin true m e) h =
     (rw (lt-ltb (m * up e * 1) (2 ^ 63 * down e) (wider f m e h)) tt, lt→ltb 0 (m * up e * 1 + 2 ^ 63 * down e) (omega (arith, down-pos e)))
@@ -227,10 +231,37 @@ unfolding toSigned
 cut-is f true m e h = let n : min (m * up e / down e) (2 ^ 63) ≡ m * up e / down e = omega (arith, in-63 f) in rw n
 cut-is f false m e h = let n : min (m * up e / down e) (2 ^ 63 - 1) ≡ m * up e / down e = omega (arith, in-63 f) in rw n
 
-pub cut : (f : Format) (x : Float) (z : ℤ) → T (fits f x) → Inside f x → z ≡ toSigned 63 x → Cut f x z
-cut f (fin s m e) z t h k =
-    let small : m * up e / down e < 2 ^ (prec f - 1) = div-lt-iff-lt-mul (down-pos e) .1 h in
-    rw (k ∙ cut-is f s m e small) (below-limit f m e (m * up e / down e) refl (omega (arith, doubled f)) s t)
+-- the integer passes through 64 bits unchanged
+stored : (s : Bool) (q : ℕ) → q < 2 ^ 63 → toZ w64 (ofZ w64 (signed s q)) ≡ signed s q
+stored false q h = toZ-ofZ w64 (pos q) (record { sfits = h })
+stored true zero h = toZ-ofZ w64 (pos 0) (record { sfits = h })
+stored true (suc k) h = toZ-ofZ w64 (negsuc k) (record { sfits = le-of-lt h })
+
+abbrev pub StoredCut : Format → Float → ℤ → Type 0
+StoredCut f x z = Cut f x (toZ w64 (ofZ w64 z))
+
+cut-inside : (f : Format) (x : Float) (z : ℤ) → T (fits f x) → Inside f x → z ≡ toSigned 63 x → StoredCut f x z
+cut-inside f (fin s m e) z t h k =
+    let q = m * up e / down e in
+    let small : q < 2 ^ (prec f - 1) = div-lt-iff-lt-mul (down-pos e) .1 h in
+    rw (k, cut-is f s m e small, stored s q (omega (arith, in-63 f))) (below-limit f m e q refl (omega (arith, doubled f)) s t)
+
+-- ---- what the code of each width relies on, from its first test to its answers
+pub record FloorCode (f : Format) (x : Float) : Type 0 where
+  pub above : lt x (wholeLimit f false) ≡ false → x ≡ floored f x
+  pub below : lt (wholeLimit f true) x ≡ false → x ≡ floored f x
+  pub castable : lt x (wholeLimit f false) ≡ true → lt (wholeLimit f true) x ≡ true
+      → T (le (fin true 1 (pos 63)) x) × T (lt x (fin false 1 (pos 63)))
+  pub cut : lt x (wholeLimit f false) ≡ true → lt (wholeLimit f true) x ≡ true → {z : ℤ} → z ≡ toSigned 63 x
+      → StoredCut f x z
+
+pub floor-code : (f : Format) (x : Float) → fits f x ≡ true → FloorCode f x
+floor-code f x e = let t = passes (fits f x) e in record {
+  above = floor-above f x t;
+  below = floor-below f x t;
+  castable = λ h k. castable f x (inside f x h k);
+  cut = λ h k {z} w. cut-inside f x z t (inside f x h k) w;
+}
 
 -- ---- the ceiling
 -- the ceiling is the floor's negative of the negative

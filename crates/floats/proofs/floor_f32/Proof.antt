@@ -1,51 +1,28 @@
--- `floats::floor_f32` is `floored`: x itself past either limit, and between them what the law `cut` says of the three
--- answers. The tests give their numbers by bits, which compute under `unfolding ofBits neg`.
-use mathlib.Core.Path.{_∙_}
-use mir.Syntax.{w64}
-use mir.Val.{toZ, ofZ}
-use mir.ValLaws.{toZ-ofZ}
+-- `floats::floor_f32` is `floored`, by what `floor-code` says of its tests and answers. The tests give their numbers by
+-- bits, which compute under `unfolding ofBits neg`.
 use lib.Ieee.{binary32, ofBits, neg}
-use denote.Floats.{passes}
-use borrow.Author.Needs.{needs}
-use Rattle.floats.proofs.Whole.{Inside, Cut, inside, castable, cut, floor-above, floor-below}
+use Rattle.floats.proofs.Whole.{FloorCode, StoredCut, floor-code}
 use Rattle.floats.proofs.floor_f32.Statement.{statement}
 use Rattle.floats.proofs.floor_f32.Tie as tie
 
-returns-5 : tie.Need-returns-5
-unfolding ofBits
-returns-5 c = floor-above binary32 (c .before .args .x) (passes _ (c .before .good .0 .1)) (c .if1 .left)
-
-returns-4 : tie.Need-returns-4
-unfolding ofBits neg
-returns-4 c = floor-below binary32 (c .before .before .args .x) (passes _ (c .before .before .good .0 .1)) (c .if2 .left)
-
-between : (c : tie.Then2) → Inside binary32 (c .before .before .args .x)
-unfolding ofBits neg
-between c = inside binary32 (c .before .before .args .x) (c .before .if1 .taken) (c .if2 .taken)
-
-truncating-f32-to-i64-requires : tie.Need-truncating-f32-to-i64-requires
-truncating-f32-to-i64-requires c κs = castable binary32 (c .before .before .args .x) (between c)
+code : (c : tie.Start) → FloorCode binary32 (c .args .x)
+code c = floor-code binary32 (c .args .x) (c .good .0 .1)
 
 known : (c : tie.After-row-known)
-    → Cut binary32 (c .before .before .before .before .args .x)
-    (toZ w64 (ofZ w64 (c .before .truncating-f32-to-i64 .result)))
+    → StoredCut binary32 (c .before .before .before .before .args .x) (c .before .truncating-f32-to-i64 .result)
+unfolding ofBits neg
 known c =
-    cut binary32 (c .before .before .before .before .args .x) _ (passes _ (c .before .before .before .before .good .0 .1)) (between (c .before .before))
-    (toZ-ofZ w64 (c .before .truncating-f32-to-i64 .result) (search needs) ∙ c .before .truncating-f32-to-i64 .ensures)
-
-int-to-float-whole : tie.Need-int-to-float-whole
-int-to-float-whole c = known c .exact
-
-returns : tie.Need-returns
-returns c = known (c .before) .same (c .if3 .taken)
-
-returns-2 : tie.Need-returns-2
-returns-2 c = known (c .before .before) .less (c .if4 .taken)
-
-returns-3 : tie.Need-returns-3
-unfolding ofBits
-returns-3 c = known (c .before .before) .more (c .before .if3 .left) (c .if4 .left)
+    let d = c .before .before in code (d .before .before) .cut (d .before .if1 .taken) (d .if2 .taken) (c .before .truncating-f32-to-i64 .ensures)
 
 pub floor-f32-spec : {M : Type 1} → statement M
+unfolding ofBits neg
 floor-f32-spec =
-    tie.close (tie.spec truncating-f32-to-i64-requires int-to-float-whole returns returns-2 returns-3 returns-4 returns-5)
+    tie.close
+    (tie.spec
+    (λ c κs. code (c .before .before) .castable (c .before .if1 .taken) (c .if2 .taken))
+    (λ c. known c .exact)
+    (λ c. known (c .before) .same (c .if3 .taken))
+    (λ c. known (c .before .before) .less (c .if4 .taken))
+    (λ c. known (c .before .before) .more (c .before .if3 .left) (c .if4 .left))
+    (λ c. code (c .before .before) .below (c .if2 .left))
+    (λ c. code (c .before) .above (c .if1 .left)))

@@ -2,16 +2,11 @@
 -- (`signed-fits`).
 use borrow.Author.Needs.{needs}
 use mathlib.Core.Path.{sym}
-use lib.Dec.{T}
-use lib.Ieee.{binary32, fits}
+use lib.Ieee.{binary32}
 use Rattle.floats.proofs.MinMax.{not-nan}
-use denote.Floats.{passes}
 use Rattle.floats.proofs.TotalOrder.{key-nan, key-split, signed-fits, signed-below}
 use Rattle.floats.proofs.order_key_f32.Statement.{statement}
 use Rattle.floats.proofs.order_key_f32.Tie as tie
-
-held : (c : tie.Start) → T (fits binary32 (c .args .x))
-held c = passes _ (c .good .0 .1)
 
 pub order-key-f32-spec : {M : Type 1} → statement M
 order-key-f32-spec =
@@ -22,6 +17,6 @@ order-key-f32-spec =
     (λ c. search needs)
     (λ c. search needs)
     (λ c. search needs)
-    (λ c. record { fits = signed-below binary32 _ (held (c .before)) })
-    (λ c. signed-fits binary32 _ (held (c .before)))
-    (λ c. sym (key-split binary32 _ (held (c .before)))))
+    (λ c. record { fits = signed-below binary32 _ (c .before .good .0 .1) })
+    (λ c. signed-fits binary32 _ (c .before .good .0 .1))
+    (λ c. sym (key-split binary32 _ (c .before .good .0 .1))))

@@ -2,16 +2,11 @@
 -- (`signed-fits`).
 use borrow.Author.Needs.{needs}
 use mathlib.Core.Path.{sym}
-use lib.Dec.{T}
-use lib.Ieee.{binary64, fits}
+use lib.Ieee.{binary64}
 use Rattle.floats.proofs.MinMax.{not-nan}
-use denote.Floats.{passes}
 use Rattle.floats.proofs.TotalOrder.{key-nan, key-split, signed-fits, signed-below}
 use Rattle.floats.proofs.order_key_f64.Statement.{statement}
 use Rattle.floats.proofs.order_key_f64.Tie as tie
-
-held : (c : tie.Start) → T (fits binary64 (c .args .x))
-held c = passes _ (c .good .0 .1)
 
 pub order-key-f64-spec : {M : Type 1} → statement M
 order-key-f64-spec =
@@ -22,6 +17,6 @@ order-key-f64-spec =
     (λ c. search needs)
     (λ c. search needs)
     (λ c. search needs)
-    (λ c. record { fits = signed-below binary64 _ (held (c .before)) })
-    (λ c. signed-fits binary64 _ (held (c .before)))
-    (λ c. sym (key-split binary64 _ (held (c .before)))))
+    (λ c. record { fits = signed-below binary64 _ (c .before .good .0 .1) })
+    (λ c. signed-fits binary64 _ (c .before .good .0 .1))
+    (λ c. sym (key-split binary64 _ (c .before .good .0 .1))))

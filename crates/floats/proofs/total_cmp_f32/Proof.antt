@@ -1,20 +1,14 @@
--- `floats::total_cmp_f32` meets its contract: its tests are those of `comparedNumbers` of the two keys, and
--- `compared-by-key` says that the floats stand so.
-use borrow.Author.Tests.{lt-ltb, le-ltb}
-use mathlib.Core.Path.{_≡_}
+-- `floats::total_cmp_f32` meets its contract: each answer is the one that `by-keys` gives for its tests.
 use lib.Ieee.{binary32}
-use Rattle.floats.specs.TotalOrder.{compared}
-use denote.Floats.{passes}
-use Rattle.floats.proofs.TotalOrder.{comparedNumbers, compared-by-key}
+use Rattle.floats.proofs.TotalOrder.{ByKeys, by-keys}
 use Rattle.floats.proofs.total_cmp_f32.Statement.{statement}
 use Rattle.floats.proofs.total_cmp_f32.Tie as tie
 
-by-key : (c : tie.After-order-key-f322)
-    → compared (c .before .before .args .a) (c .before .before .args .b)
-    ≡ comparedNumbers (c .before .order-key-f32 .result) (c .order-key-f322 .result)
-by-key c =
-    let good = c .before .before .good in
-    compared-by-key binary32 _ _ _ _ (passes _ (good .0 .1)) (passes _ (good .1 .0 .1)) (c .before .order-key-f32 .ensures) (c .order-key-f322 .ensures)
+known : (c : tie.After-order-key-f322)
+    → ByKeys (c .before .before .args .a) (c .before .before .args .b) (c .before .order-key-f32 .result)
+    (c .order-key-f322 .result)
+known c =
+    let good = c .before .before .good in by-keys binary32 (good .0 .1) (good .1 .0 .1) (c .before .order-key-f32 .ensures) (c .order-key-f322 .ensures)
 
 pub total-cmp-f32-spec : {M : Type 1} → statement M
 total-cmp-f32-spec =
@@ -22,6 +16,6 @@ total-cmp-f32-spec =
     (tie.spec
     (λ c κs. tt)
     (λ c κs. tt)
-    (λ c. rw (by-key (c .before), lt-ltb _ _ (c .if1 .taken)))
-    (λ c. rw (by-key (c .before .before), le-ltb _ _ (c .before .if1 .left), lt-ltb _ _ (c .if2 .taken)))
-    (λ c. rw (by-key (c .before .before), le-ltb _ _ (c .before .if1 .left), le-ltb _ _ (c .if2 .left))))
+    (λ c. known (c .before) .less (c .if1 .taken))
+    (λ c. known (c .before .before) .greater (c .before .if1 .left) (c .if2 .taken))
+    (λ c. known (c .before .before) .equal (c .before .if1 .left) (c .if2 .left)))
