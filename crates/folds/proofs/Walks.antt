@@ -227,3 +227,41 @@ module _ {S : Type 0} {f g : ℕ → S → S} where
       go : (b < a) ⊎ (a ≤ b) → forRange f a b s ≡ forRange g a b s
       go (inl h) = rw (none h)
       go (inr h) = steps-same a (b - a) s (λ i l u. e i l (omega arith))
+
+-- ---- walks whose every turn keeps P
+
+module _ {S : Type 0} (P : ℕ → S → Type 0) (f : ℕ → S → S) where
+  steps-keep : (a k : ℕ) (s : S) → P a s
+      → ((i : ℕ) → a ≤ i → i < a + k → (s : S) → P i s → P (suc i) (f i s))
+      → P (a + k) (steps f a k s)
+  unfolding steps
+  steps-keep a zero s p turn =
+      let e : a ≡ a + 0 = omega arith in
+      subst (λ (n : ℕ). P n s) e p
+  steps-keep a (suc k) s p turn =
+      let e : suc a + k ≡ a + suc k = omega arith in
+      subst (λ (n : ℕ). P n (steps f (suc a) k (f a s))) e
+      (steps-keep (suc a) k (f a s) (turn a (omega arith) (omega arith) s p) (λ i l u. turn i (omega arith) (omega arith)))
+
+  pub for-range-keeps : (a b : ℕ) (s : S) → a ≤ b → P a s
+      → ((i : ℕ) → a ≤ i → i < b → (s : S) → P i s → P (suc i) (f i s))
+      → P b (forRange f a b s)
+  for-range-keeps a b s h p turn =
+      let e : a + (b - a) ≡ b = omega arith in
+      subst (λ (n : ℕ). P n (forRange f a b s)) e (steps-keep a (b - a) s p (λ i l u. turn i l (omega arith)))
+
+  -- and where P holds, a turn of g is one of f
+  module _ (g : ℕ → S → S) where
+    steps-alike : (a k : ℕ) (s : S) → P a s
+        → ((i : ℕ) → a ≤ i → i < a + k → (s : S) → P i s → (g i s ≡ f i s) × P (suc i) (f i s))
+        → steps g a k s ≡ steps f a k s
+    unfolding steps
+    steps-alike a zero s p turn = refl
+    steps-alike a (suc k) s p turn =
+        let t = turn a (omega arith) (omega arith) s p in
+        ap (steps g (suc a) k) (t .0) ∙ steps-alike (suc a) k (f a s) (t .1) (λ i l u. turn i (omega arith) (omega arith))
+
+    pub for-range-alike : (a b : ℕ) (s : S) → P a s
+        → ((i : ℕ) → a ≤ i → i < b → (s : S) → P i s → (g i s ≡ f i s) × P (suc i) (f i s))
+        → forRange g a b s ≡ forRange f a b s
+    for-range-alike a b s p turn = steps-alike a (b - a) s p (λ i l u. turn i l (omega arith))

@@ -13,8 +13,9 @@ use lib.Dec.{T, ltb}
 use lib.Ieee.{Float, nan, isNan, binary64, ofBits, neg, div, eq, le, lt}
 use lib.ListN.{getD, set}
 use lib.Seq.{getD-set-other}
-use Rattle.folds.specs.Walks.{steps, forRange}
+use Rattle.folds.specs.Walks.{forRange}
 use Rattle.folds.proofs.Tests.{same-test, lt-or-ge}
+use Rattle.folds.proofs.Walks.{for-range-keeps, for-range-alike}
 use Rattle.floats.specs.Constants.{f64Min, f64Zero}
 use Rattle.floats.proofs.Order.{le-right, le-refl, le-trans, lt→le, lt→not-le, not-le→lt}
 use Rattle.gauss.specs.declared.Pivot.{Pivot}
@@ -23,44 +24,6 @@ use Rattle.gauss.specs.Elimination.{clearRow, clearedBelow, echelonColum
 
 is-true : {b : Bool} → T b → b ≡ true
 is-true {b} t = same-test b true (λ u. tt) (λ u. t)
-
--- ---- walks whose every turn keeps P
-
-module _ {S : Type 0} (P : ℕ → S → Type 0) (f : ℕ → S → S) where
-  steps-keep : (a k : ℕ) (s : S) → P a s
-      → ((i : ℕ) → a ≤ i → i < a + k → (s : S) → P i s → P (suc i) (f i s))
-      → P (a + k) (steps f a k s)
-  unfolding steps
-  steps-keep a zero s p turn =
-      let e : a ≡ a + 0 = omega arith in
-      subst (λ (n : ℕ). P n s) e p
-  steps-keep a (suc k) s p turn =
-      let e : suc a + k ≡ a + suc k = omega arith in
-      subst (λ (n : ℕ). P n (steps f (suc a) k (f a s))) e
-      (steps-keep (suc a) k (f a s) (turn a (omega arith) (omega arith) s p) (λ i l u. turn i (omega arith) (omega arith)))
-
-  for-range-keeps : (a b : ℕ) (s : S) → a ≤ b → P a s
-      → ((i : ℕ) → a ≤ i → i < b → (s : S) → P i s → P (suc i) (f i s))
-      → P b (forRange f a b s)
-  for-range-keeps a b s h p turn =
-      let e : a + (b - a) ≡ b = omega arith in
-      subst (λ (n : ℕ). P n (forRange f a b s)) e (steps-keep a (b - a) s p (λ i l u. turn i l (omega arith)))
-
-  -- and where P holds, a turn of g is one of f
-  module _ (g : ℕ → S → S) where
-    steps-alike : (a k : ℕ) (s : S) → P a s
-        → ((i : ℕ) → a ≤ i → i < a + k → (s : S) → P i s → (g i s ≡ f i s) × P (suc i) (f i s))
-        → steps g a k s ≡ steps f a k s
-    unfolding steps
-    steps-alike a zero s p turn = refl
-    steps-alike a (suc k) s p turn =
-        let t = turn a (omega arith) (omega arith) s p in
-        ap (steps g (suc a) k) (t .0) ∙ steps-alike (suc a) k (f a s) (t .1) (λ i l u. turn i (omega arith) (omega arith))
-
-    for-range-alike : (a b : ℕ) (s : S) → P a s
-        → ((i : ℕ) → a ≤ i → i < b → (s : S) → P i s → (g i s ≡ f i s) × P (suc i) (f i s))
-        → forRange g a b s ≡ forRange f a b s
-    for-range-alike a b s p turn = steps-alike a (b - a) s p (λ i l u. turn i l (omega arith))
 
 -- ---- "The pivot is the largest signed entry, not the largest size; among equals the last row wins."
 
