@@ -5,7 +5,7 @@
 
 use host::{Rate, FEATURES};
 use sage_core::ml::kde::Parts;
-use vayemuku_sys::{self as sys, EstimatorRef, LineNumbers, RankingColumns, TableRef};
+use vayemuku_sys::{self as sys, CheckedColumns, EstimatorRef, LineNumbers, RankingColumns, TableRef};
 
 /// The coefficients of a model, a feature row, or a row of a system.
 pub type Vector = [f64; FEATURES];
@@ -82,13 +82,28 @@ pub fn assign_q_value(
     (sys::assign_q_value(two_names, estimator, table, slots, labels, ranking, &mut count).number, count)
 }
 
+/// The numbers of a line's check before a call.
+const NO_NUMBERS: LineNumbers =
+    LineNumbers { right: UNWRITTEN as u32, row: UNWRITTEN, decoys_plus_one: UNWRITTEN, targets: UNWRITTEN };
+
 /// The numbers of a line's check.
 pub fn check_line(labels: &[i32], line: usize, rate: Rate) -> (u32, LineNumbers) {
-    let [row, decoys_plus_one, targets] = [UNWRITTEN; 3];
-    let mut numbers = LineNumbers { right: UNWRITTEN as u32, row, decoys_plus_one, targets };
+    let mut numbers = NO_NUMBERS;
     let check = match rate {
         Rate::OneIn100 => sys::check_line_100,
         Rate::OneIn20 => sys::check_line_20,
     };
     (check(labels, line, &mut numbers).number, numbers)
+}
+
+/// The numbers of the check of spectra's own line.
+pub fn checked_spectra(labels: &[i32], q: &mut [f32]) -> (u32, LineNumbers) {
+    let mut numbers = NO_NUMBERS;
+    (sys::checked_spectra(labels, q, &mut numbers).number, numbers)
+}
+
+/// The numbers of the check of precursors' own line.
+pub fn checked_precursors(labels: &[i32], scores: &[f64], columns: CheckedColumns) -> (u32, LineNumbers) {
+    let mut numbers = NO_NUMBERS;
+    (sys::checked_precursors(labels, scores, columns, &mut numbers).number, numbers)
 }

@@ -27,6 +27,7 @@
 
 #![forbid(unsafe_code)]
 
+mod checked;
 mod competition;
 mod counting;
 mod discriminant;
@@ -39,6 +40,7 @@ mod posterior;
 mod refusal;
 pub mod rescoring;
 
+pub use checked::{checked_precursors, checked_spectra, CheckedPrecursors, CheckedSpectra};
 pub use competition::{CompetitionTable, Names, Winners, NO_PART};
 pub use counting::{picked_precursor, precursor_order, rank_keys, spectrum_q_value, QValues, LONGEST};
 pub use discriminant::{Model, Scores};

@@ -57,6 +57,17 @@ impl Display for Line {
     }
 }
 
+impl From<LineNumbers> for Line {
+    fn from(numbers: LineNumbers) -> Line {
+        let LineNumbers { right, row, decoys_plus_one, targets } = numbers;
+        let counts = Counts { row, decoys_plus_one, targets };
+        match right {
+            1 => Line::Right(counts),
+            _ => Line::Wrong(counts),
+        }
+    }
+}
+
 /// Whether a line of a ranked list is right: it is 0 or its row qualifies, and no later row does.
 ///
 /// Refuses with [`TooLong`](crate::Refusal::TooLong) and [`PastTheEnd`](crate::Refusal::PastTheEnd).
@@ -76,10 +87,5 @@ pub fn check_line(labels: &[i32], line: usize, rate: Rate) -> Result<Line, Refus
     };
     let mut numbers = LineNumbers::default();
     Refused::check(check(labels, line, &mut numbers))?;
-    let LineNumbers { right, row, decoys_plus_one, targets } = numbers;
-    let counts = Counts { row, decoys_plus_one, targets };
-    Ok(match right {
-        1 => Line::Right(counts),
-        _ => Line::Wrong(counts),
-    })
+    Ok(numbers.into())
 }

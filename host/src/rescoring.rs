@@ -2,8 +2,8 @@
 //! spectrum_q_value and picked_protein work them out.
 
 use crate::{
-    check_line, log_errors, precursor_order, spectrum_q_value, Builder, CompetitionTable, Densities, Estimator, Line,
-    Model, Names, Psm, QValues, Rate, Refused, Scores, Tolerance, FEATURES, NO_PART,
+    checked_spectra, log_errors, precursor_order, Builder, CheckedSpectra, CompetitionTable, Densities, Estimator, Line,
+    Model, Names, Psm, QValues, Refused, Scores, Tolerance, FEATURES, NO_PART,
 };
 use std::cmp::Ordering;
 use std::collections::HashMap;
@@ -85,8 +85,7 @@ pub fn rescore(
 
     let scores = ranked(&order, &narrowed);
     let labels = ranked(&order, &labels);
-    let spectra = spectrum_q_value(&labels)?;
-    let line = check_line(&labels, spectra.count, Rate::OneIn100)?;
+    let CheckedSpectra { q_values: spectra, line } = checked_spectra(&labels)?;
     let (slots, protein_slots) = slots(&ranked(&order, protein_names));
     let rows = RankedRows { slots: &slots, labels: &labels, scores: &scores };
     let proteins = rows.protein_q_values(names, protein_slots, densities)?;

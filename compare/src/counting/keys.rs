@@ -38,12 +38,13 @@ fn compared(mut keys: Vec<u64>) -> Result<(), String> {
         .map_err(|fault| format!("{fault}, of {} keys", keys.len()))
 }
 
-/// Columns of these lengths are refused, and hold 0 in every place afterwards.
+/// Columns of these lengths are refused; the keys are then as they came, and the working column holds 0.
 fn refused(keys: usize, spare: usize, wanted: u32) -> Result<(), String> {
-    let (mut keys, mut spare) = (vec![GARBAGE; keys], vec![GARBAGE; spare]);
+    let came: Vec<u64> = (0..keys as u64).rev().collect();
+    let (mut keys, mut spare) = (came.clone(), vec![GARBAGE; spare]);
     let number = rank_keys(&mut keys, &mut spare).number;
     expect("number", number, wanted)
-        .and_then(|()| expect_all("keys afterwards", &keys, 0))
+        .and_then(|()| expect_column("key afterwards", &keys, came.into_iter()))
         .and_then(|()| expect_all("spare afterwards", &spare, 0))
         .map_err(|fault| format!("{fault}, lengths {} and {}", keys.len(), spare.len()))
 }

@@ -2,23 +2,24 @@
 
 use super::reading::{self, ranked, Counted};
 use super::{described, expect_passing, EVERY, HEADS, TAIL};
-use crate::calls::{check_line, picked_precursor};
+use crate::calls::{check_line, checked_precursors, picked_precursor};
 use crate::cases::Random;
 use crate::lists::{blocks, distinct_scores, each_pattern, label, random_labels, shuffle, tied_scores, LONGEST};
 use crate::report::{expect, expect_all, expect_column, Tally};
 use crate::sage;
 use host::Rate;
-use vayemuku_sys::{precursor_order, RankingColumns};
+use vayemuku_sys::{precursor_order, CheckedColumns, LineNumbers, RankingColumns};
 
 /// The contents of working and result columns before a call.
 const GARBAGE: u64 = 0x5a5a_5a5a_5a5a_5a5a;
 const GARBAGE_Q: f32 = 0.025;
 const GARBAGE_PLACE: u32 = 77;
+const GARBAGE_LABEL: i32 = -1;
 
 /// The blank of a whole number.
 const BLANK: u32 = u32::MAX;
 
-/// Compares both calls on `lists` random lists of each kind, and says whether nothing differed.
+/// Compares the calls on `lists` random lists of each kind, and says whether nothing differed.
 pub fn run(lists: u64) -> bool {
     let mut calls = Precursors::new();
     each_pattern(0, EVERY, |labels| calls.distinct(labels));
@@ -32,7 +33,7 @@ pub fn run(lists: u64) -> bool {
     }
     calls.longest();
     calls.refusals();
-    let same = [calls.picked.print(), calls.order.print()];
+    let same = [calls.picked.print(), calls.order.print(), calls.checked.print()];
     same.iter().all(|same| *same)
 }
 
@@ -40,14 +41,15 @@ pub fn run(lists: u64) -> bool {
 struct Precursors {
     picked: Tally,
     order: Tally,
+    checked: Tally,
     random: Random,
 }
 
 impl Precursors {
     /// Nothing compared yet.
     fn new() -> Self {
-        let (picked, order) = (Tally::new("picked_precursor"), Tally::new("precursor_order"));
-        Precursors { picked, order, random: Random::new(6) }
+        let [picked, order, checked] = ["picked_precursor", "precursor_order", "checked_precursors"].map(Tally::new);
+        Precursors { picked, order, checked, random: Random::new(6) }
     }
 
     /// Labels as ranked by scores that differ, put into random order, beside sage.
@@ -92,7 +94,8 @@ impl Precursors {
 
     /// Compares one list: q-values and count with those wanted, and the order with the places as ranked.
     fn compare(&mut self, labels: &[i32], scores: &[f64], places: &[u32], wanted: (Vec<f32>, usize)) {
-        let mut columns = Columns::new([labels.len(); 4]);
+        let mut columns = Columns::new([labels.len(); 5]);
+        let checked = columns.checked_is(labels, scores, places, &wanted);
         let order = columns.order_is(scores, places);
         let right_order = order.is_ok();
         let picked = columns.q_values_are(labels, scores, wanted).and_then(|count| match right_order {
@@ -102,6 +105,7 @@ impl Precursors {
         let fault = |fault| format!("{fault}, in {}", described(labels));
         self.order.outcome(order.map_err(fault));
         self.picked.outcome(picked.map_err(fault));
+        self.checked.outcome(checked.map_err(fault));
     }
 
     /// Lists that are too long, and columns of another length.
@@ -112,7 +116,16 @@ impl Precursors {
         for lengths in every_length::<4>().filter(|lengths| *lengths != [lengths[0]; 4]) {
             self.order_refusal(lengths, 2);
         }
+        for lengths in every_length::<7>().filter(|lengths| *lengths != [lengths[0]; 7]) {
+            self.checked_refusal(lengths, 2);
+        }
         let long = LONGEST + 1;
+        for (place, number) in [(0, 1), (1, 1), (2, 2), (3, 2), (4, 2), (5, 2), (6, 2)] {
+            self.checked_refusal(with([3; 7], place, long), number);
+            self.checked_refusal(with([5_000; 7], place, 4_999), 2);
+            self.checked_refusal(with([5_000; 7], place, 5_001), 2);
+        }
+        self.checked_refusal([long; 7], 1);
         for (place, number) in [(0, 1), (1, 1), (2, 2), (3, 2), (4, 2)] {
             self.picked_refusal(with([3; 5], place, long), number);
             self.picked_refusal(with([5_000; 5], place, 4_999), 2);
@@ -132,7 +145,7 @@ impl Precursors {
     /// picked_precursor refuses labels, scores, keys, spare and q of these lengths, and leaves blanks.
     fn picked_refusal(&mut self, lengths: [usize; 5], wanted: u32) {
         let [labels, scores, keys, spare, q] = lengths;
-        let mut columns = Columns::new([keys, spare, q, 0]);
+        let mut columns = Columns::new([keys, spare, q, 0, 0]);
         let (number, count) = columns.pick(&some_labels(labels), &some_scores(scores));
         let outcome = expect("number", number, wanted)
             .and_then(|()| expect("count", count, 0))
@@ -141,10 +154,24 @@ impl Precursors {
         self.picked.outcome(outcome.map_err(|fault| format!("{fault}, lengths {lengths:?}")));
     }
 
+    /// checked_precursors refuses labels, scores, keys, spare, q, order and ranked of these lengths, and leaves blanks.
+    fn checked_refusal(&mut self, lengths: [usize; 7], wanted: u32) {
+        let [labels, scores, keys, spare, q, order, ranked] = lengths;
+        let mut columns = Columns::new([keys, spare, q, order, ranked]);
+        let (number, numbers) = columns.check(&some_labels(labels), &some_scores(scores));
+        let outcome = expect("number", number, wanted)
+            .and_then(|()| expect("numbers", numbers, LineNumbers::default()))
+            .and_then(|()| expect_all("q", &columns.q, f32::NAN))
+            .and_then(|()| expect_all("order", &columns.order, BLANK))
+            .and_then(|()| expect_all("ranked", &columns.ranked, 0))
+            .and_then(|()| columns.cleared());
+        self.checked.outcome(outcome.map_err(|fault| format!("{fault}, lengths {lengths:?}")));
+    }
+
     /// precursor_order refuses scores, keys, spare and order of these lengths, and leaves blanks.
     fn order_refusal(&mut self, lengths: [usize; 4], wanted: u32) {
         let [scores, keys, spare, order] = lengths;
-        let mut columns = Columns::new([keys, spare, 0, order]);
+        let mut columns = Columns::new([keys, spare, 0, order, 0]);
         let number = columns.rank(&some_scores(scores));
         let outcome = expect("number", number, wanted)
             .and_then(|()| expect_all("order", &columns.order, BLANK))
@@ -153,19 +180,52 @@ impl Precursors {
     }
 }
 
-/// The working and result columns of a call.
+/// The working and result columns of the calls.
 struct Columns {
     keys: Vec<u64>,
     spare: Vec<u64>,
     q: Vec<f32>,
     order: Vec<u32>,
+    ranked: Vec<i32>,
 }
 
 impl Columns {
     /// Columns of these lengths, full of garbage.
-    fn new([keys, spare, q, order]: [usize; 4]) -> Self {
+    fn new([keys, spare, q, order, ranked]: [usize; 5]) -> Self {
         let (keys, spare) = (vec![GARBAGE; keys], vec![GARBAGE; spare]);
-        Columns { keys, spare, q: vec![GARBAGE_Q; q], order: vec![GARBAGE_PLACE; order] }
+        let (order, ranked) = (vec![GARBAGE_PLACE; order], vec![GARBAGE_LABEL; ranked]);
+        Columns { keys, spare, q: vec![GARBAGE_Q; q], order, ranked }
+    }
+
+    /// The call that gives q-values and order and checks their line, on columns full of garbage.
+    fn check(&mut self, labels: &[i32], scores: &[f64]) -> (u32, LineNumbers) {
+        let lengths = [self.keys.len(), self.spare.len(), self.q.len(), self.order.len(), self.ranked.len()];
+        *self = Columns::new(lengths);
+        let Columns { keys, spare, q, order, ranked } = self;
+        checked_precursors(labels, scores, CheckedColumns { ranking: RankingColumns { keys, spare, q }, ranked, order })
+    }
+
+    /// Its q-values and its order are those wanted, and its answer is the reading's of the right line, which is Right;
+    /// the targets are the count.
+    fn checked_is(
+        &mut self,
+        labels: &[i32],
+        scores: &[f64],
+        places: &[u32],
+        wanted: &(Vec<f32>, usize),
+    ) -> Result<(), String> {
+        let (number, numbers) = self.check(labels, scores);
+        let as_ranked: Vec<i32> = places.iter().map(|&place| labels[place as usize]).collect();
+        let counted = Counted::new(&as_ranked);
+        let line = counted.right_line(Rate::OneIn20);
+        expect("number", number, 0)?;
+        expect("answer", numbers, counted.line_numbers(line, Rate::OneIn20))?;
+        expect("right", numbers.right, 1)?;
+        expect("targets", numbers.targets, wanted.1)?;
+        expect_column("q", &self.q, wanted.0.iter().copied())?;
+        expect_column("place at rank", &self.order, places.iter().copied())?;
+        expect_all("ranked afterwards", &self.ranked, 0)?;
+        self.cleared()
     }
 
     /// The call that gives q-values, on working columns full of garbage.

@@ -2,18 +2,20 @@
 
 use super::reading::Counted;
 use super::{described, expect_passing};
-use crate::calls::spectrum_q_value;
+use crate::calls::{checked_spectra, spectrum_q_value};
 use crate::lists::{label, LONGEST};
 use crate::report::{expect, expect_all, expect_column, Tally};
 use crate::sage::SageRows;
 use host::Rate;
+use vayemuku_sys::LineNumbers;
 
 /// The contents of a q column before a call.
 const GARBAGE: f32 = 0.005;
 
-/// The tally, sage's rows, and the port's column.
+/// The tallies of the call alone and with the check of its line, sage's rows, and the port's column.
 pub struct Spectrum {
     tally: Tally,
+    checked: Tally,
     rows: SageRows,
     q: Vec<f32>,
 }
@@ -21,13 +23,30 @@ pub struct Spectrum {
 impl Spectrum {
     /// Nothing compared yet.
     pub fn new() -> Self {
-        Spectrum { tally: Tally::new("spectrum_q_value"), rows: SageRows::default(), q: Vec::new() }
+        let (tally, checked) = (Tally::new("spectrum_q_value"), Tally::new("checked_spectra"));
+        Spectrum { tally, checked, rows: SageRows::default(), q: Vec::new() }
     }
 
     /// Compares one list.
     pub fn check(&mut self, labels: &[i32], counted: &Counted) {
         let outcome = self.compared(labels, counted);
         self.tally.outcome(outcome.map_err(|fault| format!("{fault}, in {}", described(labels))));
+        let outcome = self.with_its_line(labels, counted);
+        self.checked.outcome(outcome.map_err(|fault| format!("{fault}, in {}", described(labels))));
+    }
+
+    /// With the check of its line: the column is sage's, and the answer is the reading's of its right line, which is
+    /// Right.
+    fn with_its_line(&mut self, labels: &[i32], counted: &Counted) -> Result<(), String> {
+        self.q.fill(GARBAGE);
+        let (number, numbers) = checked_spectra(labels, &mut self.q);
+        let (sage_q, sage_count) = self.rows.spectrum(labels);
+        let line = counted.right_line(Rate::OneIn100);
+        expect("number", number, 0)?;
+        expect("answer", numbers, counted.line_numbers(line, Rate::OneIn100))?;
+        expect("right", numbers.right, 1)?;
+        expect("row", numbers.row, sage_count)?;
+        expect_column("q", &self.q, sage_q)
     }
 
     /// The port's column and count are sage's, and pass exactly the rows up to the right one-in-100 line.
@@ -68,6 +87,12 @@ impl Spectrum {
             .and_then(|()| expect("count", count, 0))
             .and_then(|()| expect_all("q", &q, f32::NAN));
         self.tally.outcome(outcome.map_err(|fault| format!("{fault}, lengths {} and {}", labels.len(), q.len())));
+        q.fill(GARBAGE);
+        let (number, numbers) = checked_spectra(&labels, &mut q);
+        let outcome = expect("number", number, wanted)
+            .and_then(|()| expect("numbers", numbers, LineNumbers::default()))
+            .and_then(|()| expect_all("q", &q, f32::NAN));
+        self.checked.outcome(outcome.map_err(|fault| format!("{fault}, lengths {} and {}", labels.len(), q.len())));
     }
 
     /// Notes lists that could not be compared.
@@ -77,6 +102,7 @@ impl Spectrum {
 
     /// Prints the line, and says whether nothing differed.
     pub fn print(&self) -> bool {
-        self.tally.print()
+        let same = [self.tally.print(), self.checked.print()];
+        same.iter().all(|same| *same)
     }
 }

@@ -231,7 +231,7 @@ module _ {S : Type 0} {f g : ℕ → S → S} where
 -- ---- walks whose every turn keeps P
 
 module _ {S : Type 0} (P : ℕ → S → Type 0) (f : ℕ → S → S) where
-  steps-keep : (a k : ℕ) (s : S) → P a s
+  pub steps-keep : (a k : ℕ) (s : S) → P a s
       → ((i : ℕ) → a ≤ i → i < a + k → (s : S) → P i s → P (suc i) (f i s))
       → P (a + k) (steps f a k s)
   unfolding steps

@@ -13,9 +13,9 @@ use lib.Dec.{T, ltb}
 use lib.Ieee.{Float, nan, isNan, binary64, ofBits, neg, div, eq, le, lt}
 use lib.ListN.{getD, set}
 use lib.Seq.{getD-set-other}
-use Rattle.folds.specs.Walks.{forRange}
+use Rattle.folds.specs.Walks.{steps, forRange}
 use Rattle.folds.proofs.Tests.{same-test, lt-or-ge}
-use Rattle.folds.proofs.Walks.{for-range-keeps, for-range-alike}
+use Rattle.folds.proofs.Walks.{steps-keep, for-range-keeps, for-range-alike}
 use Rattle.floats.specs.Constants.{f64Min, f64Zero}
 use Rattle.floats.proofs.Order.{le-right, le-refl, le-trans, lt→le, lt→not-le, not-le→lt}
 use Rattle.gauss.specs.declared.Pivot.{Pivot}

@@ -54,6 +54,16 @@ pub struct RankingColumns<'a> {
     pub q: &'a mut [f32],
 }
 
+/// The columns that a call writes which ranks precursors and checks their line.
+pub struct CheckedColumns<'a> {
+    /// A working column, a second one, and the q-values.
+    pub ranking: RankingColumns<'a>,
+    /// A working column.
+    pub ranked: &'a mut [i32],
+    /// The place, from 0, of the precursor at each rank.
+    pub order: &'a mut [u32],
+}
+
 /// The numbers that a line check writes.
 #[derive(Clone, Copy, Debug, Default, PartialEq, Eq)]
 pub struct LineNumbers {
@@ -384,4 +394,56 @@ pub fn check_line_20(labels: &[i32], line: usize, numbers: &mut LineNumbers) -> 
     let LineNumbers { right, row, decoys_plus_one, targets } = numbers;
     // SAFETY: the length is that of the slice.
     unsafe { named::vayemuku_check_line_20(labels.as_ptr(), labels.len(), line, right, row, decoys_plus_one, targets) }
+}
+
+/// Modules 6 and 7: the q-values of spectra, and the check of their line at one in 100.
+pub fn checked_spectra(labels: &[i32], q: &mut [f32], numbers: &mut LineNumbers) -> Returned {
+    let LineNumbers { right, row, decoys_plus_one, targets } = numbers;
+    // SAFETY: each length is that of its slice.
+    unsafe {
+        named::vayemuku_checked_spectra(
+            labels.as_ptr(),
+            labels.len(),
+            q.as_mut_ptr(),
+            q.len(),
+            right,
+            row,
+            decoys_plus_one,
+            targets,
+        )
+    }
+}
+
+/// Modules 6 and 7: the q-values and the order of precursors, and the check of their line at one in 20.
+pub fn checked_precursors(
+    labels: &[i32],
+    scores: &[f64],
+    columns: CheckedColumns,
+    numbers: &mut LineNumbers,
+) -> Returned {
+    let CheckedColumns { ranking, ranked, order } = columns;
+    let LineNumbers { right, row, decoys_plus_one, targets } = numbers;
+    // SAFETY: each length is that of its slice.
+    unsafe {
+        named::vayemuku_checked_precursors(
+            labels.as_ptr(),
+            labels.len(),
+            scores.as_ptr(),
+            scores.len(),
+            ranking.keys.as_mut_ptr(),
+            ranking.keys.len(),
+            ranking.spare.as_mut_ptr(),
+            ranking.spare.len(),
+            ranked.as_mut_ptr(),
+            ranked.len(),
+            order.as_mut_ptr(),
+            order.len(),
+            ranking.q.as_mut_ptr(),
+            ranking.q.len(),
+            right,
+            row,
+            decoys_plus_one,
+            targets,
+        )
+    }
 }

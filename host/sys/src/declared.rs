@@ -63,6 +63,8 @@ pub const VAYEMUKU_NO_PART: u32 = 4_294_967_295;
 
 // module 1, and the calls of modules 3 and 4 that cannot refuse
 unsafe extern "C" {
+    /// Module 4: how many bins sage's builder starts with.
+    pub safe fn vayemuku_default_bins() -> usize;
     /// Rust's `x as f32`: the nearest f32, ties to even.
     pub safe fn vayemuku_narrow(x: f64) -> f32;
     /// Rust's `x as f64`.
@@ -330,6 +332,40 @@ refusing_calls! {
         labels: *const i32,
         labels_len: usize,
         line: usize,
+        right: *mut u32,
+        row: *mut usize,
+        decoys_plus_one: *mut usize,
+        targets: *mut usize,
+    ) -> u32;
+
+    /// Modules 6 and 7: the q-values of spectra, and the check of their line at one in 100.
+    CheckedSpectra: fn vayemuku_checked_spectra(
+        labels: *const i32,
+        labels_len: usize,
+        q: *mut f32,
+        q_len: usize,
+        right: *mut u32,
+        row: *mut usize,
+        decoys_plus_one: *mut usize,
+        targets: *mut usize,
+    ) -> u32;
+
+    /// Modules 6 and 7: the q-values and the order of precursors, and the check of their line at one in 20.
+    CheckedPrecursors: fn vayemuku_checked_precursors(
+        labels: *const i32,
+        labels_len: usize,
+        scores: *const f64,
+        scores_len: usize,
+        keys: *mut u64,
+        keys_len: usize,
+        spare: *mut u64,
+        spare_len: usize,
+        ranked: *mut i32,
+        ranked_len: usize,
+        order: *mut u32,
+        order_len: usize,
+        q: *mut f32,
+        q_len: usize,
         right: *mut u32,
         row: *mut usize,
         decoys_plus_one: *mut usize,

@@ -1,7 +1,7 @@
 //! The calls and constants are declared here as include/vayemuku.h declares them.
 
 use std::collections::BTreeMap;
-use vayemuku_sys::Call;
+use vayemuku_sys::{vayemuku_default_bins, Call};
 
 /// The types of a call's parameters, in order, and of what it returns.
 type Types = (Vec<String>, String);
@@ -53,7 +53,7 @@ fn of_header() -> BTreeMap<String, Types> {
         let (returned, name) = before.rsplit_once(' ').unwrap();
         let returned = returned.rsplit('{').next().unwrap();
         let parameters = parameters.trim_end().strip_suffix(')').unwrap();
-        let types = parameters.split(',').map(in_rust).collect();
+        let types = parameters.split(',').filter(|parameter| parameter.trim() != "void").map(in_rust).collect();
         calls.insert(name.to_string(), (types, in_rust(returned)));
     }
     calls
@@ -107,10 +107,16 @@ fn constants_are_the_headers() {
     assert_eq!(constants_of_declared(), header);
 }
 
+/// The call is proved to give the number of a fresh builder.
+#[test]
+fn the_bins_of_the_header_are_the_builders() {
+    assert_eq!(constants_of_header()["VAYEMUKU_BINS"], vayemuku_default_bins() as u64);
+}
+
 #[test]
 fn declarations_are_the_headers() {
     let (header, declared) = (of_header(), of_declared());
-    assert!(header.len() >= 36, "{}", header.len());
+    assert!(header.len() >= 39, "{}", header.len());
     for (name, types) in &header {
         assert_eq!(declared.get(name), Some(types), "{name}");
     }

@@ -13,7 +13,7 @@ returns c =
     (ap (λ (run : CheckedRun). let n = numbersOf (run .answer) in
     n .number and run .keys and run .spare and run .ranked and run .order and run .q
     and n .right and n .row and n .«decoys_plus_one» and n .targets)
-    ?)
+    (c .before .before .before .before .before .before .before .before .before .before .checked-precursors .ensures))
 
 pub vayemuku-checked-precursors-spec : {M : Type 1} → statement M
 vayemuku-checked-precursors-spec =
