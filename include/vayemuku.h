@@ -4,7 +4,7 @@
  * Every call:
  * - keeps no state, allocates nothing, and makes no system call. Calls may run in several threads at once, each on
  *   columns of its own; columns that a call only reads (const) may be shared.
- * - ends on every input, and needs at most STACK of stack: vayemuku_train the most, STACKTRAIN.
+ * - ends on every input, and needs less than 32 KiB of stack: vayemuku_train the most, some 16.
  * - takes pointers that are aligned as their types are in C. A pointer to a column may be null where its length is 0;
  *   pointers to arrays of twenty and to single numbers may not. */
 #ifndef VAYEMUKU_H
@@ -175,8 +175,8 @@ uint32_t vayemuku_picked_precursor(const int32_t *labels, size_t labels_len, con
 uint32_t vayemuku_precursor_order(const double *scores, size_t scores_len, uint64_t *keys, size_t keys_len,
                                   uint64_t *spare, size_t spare_len, uint32_t *order, size_t order_len);
 
-/* The ranking alone: keys in ascending order; spare is as long and holds 0 afterwards. Refusals: 1, 2; the keys are then
- * as they came. */
+/* The ranking alone: keys in ascending order; spare is as long and holds 0 afterwards. Refusals: 1, 2; the keys are
+ * then as they came. */
 uint32_t vayemuku_rank_keys(uint64_t *keys, size_t keys_len, uint64_t *spare, size_t spare_len);
 
 /* Module 7: whether a line of a ranked list is right, at one in 100 and at one in 20. *right gets 1 or 0; *row,

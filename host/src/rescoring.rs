@@ -2,8 +2,8 @@
 //! spectrum_q_value and picked_protein work them out.
 
 use crate::{
-    checked_spectra, log_errors, precursor_order, Builder, CheckedSpectra, CompetitionTable, Densities, Estimator, Line,
-    Model, Names, Psm, QValues, Refused, Scores, Tolerance, FEATURES, NO_PART,
+    checked_spectra, log_errors, precursor_order, Builder, CheckedSpectra, CompetitionTable, Densities, Estimator,
+    Line, Model, Names, Psm, QValues, Refused, Scores, Tolerance, FEATURES, NO_PART,
 };
 use std::cmp::Ordering;
 use std::collections::HashMap;

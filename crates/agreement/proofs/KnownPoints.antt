@@ -46,7 +46,8 @@ abbrev numbers : Solution → ℕ × Vector
 numbers run = solvedNumber (run .answer) and run .values
 
 winners-accepted : (o : Outcome) (scores blanks : List Float) (flags no-flags : List ℕ)
-    → answered o (winnersRun Accepted scores flags) (λ r. winnersRun (outcome.Refused r) blanks no-flags) .answer ≡ Accepted
+    → answered o (winnersRun Accepted scores flags) (λ r. winnersRun (outcome.Refused r) blanks no-flags) .answer
+    ≡ Accepted
     → o ≡ Accepted
 winners-accepted Accepted scores blanks flags no-flags e = refl
 winners-accepted (outcome.Refused r) scores blanks flags no-flags e =

@@ -1,5 +1,5 @@
--- The q-values of precursors read in their order are the counting rule's of the list as ranked, so that those of at most
--- 0.05 are as many as the right line says; what the calls give one after the other is then the definition's.
+-- The q-values of precursors read in their order are the counting rule's of the list as ranked, so that those of at
+-- most 0.05 are as many as the right line says; what the calls give one after the other is then the definition's.
 use mathlib.Core.Path.{_≡_, refl, sym, ap, _∙_, subst}
 use mathlib.Core.List.{List, map}
 use mathlib.Core.Bool.{_&&_}
@@ -116,7 +116,8 @@ right-at-precursors labels scores s =
 
 -- ---- what the calls give, one after the other
 
-module _ (labels : List ℤ) (scores : List Float) (keys spare : List ℕ) (ranked : List ℤ) (order : List ℕ) (q : List Float)
+module _ (labels : List ℤ) (scores : List Float) (keys spare : List ℕ) (ranked : List ℤ) (order : List ℕ)
+    (q : List Float)
     (w : CheckedReady (length labels) (length scores) (length keys) (length spare) (length ranked) (length order)
     (length q)) where
   -- the q-values
@@ -176,7 +177,8 @@ module _ (labels : List ℤ) (scores : List Float) (keys spare : List ℕ) (rank
   )
 
   -- what is left of each column, and the answer
-  pub checked-is : (q₁ : List Float) (keys₂ spare₂ order₂ : List ℕ) (ranked₁ ranked₂ : List ℤ) (line : ℕ) (answer : Line)
+  pub checked-is : (q₁ : List Float) (keys₂ spare₂ order₂ : List ℕ) (ranked₁ ranked₂ : List ℤ) (line : ℕ)
+      (answer : Line)
       → q₁ ≡ precursorQ labels scores → keys₂ ≡ filled 0 keys → spare₂ ≡ filled 0 spare → order₂ ≡ rankedOrder scores
       → line ≡ countAtMost (oneIn 20) (map (λ row. getD q₁ row nan) order₂)
       → ranked₁ ≡ map (λ row. getD labels row (pos 0)) order₂
@@ -193,7 +195,8 @@ module _ (labels : List ℤ) (scores : List Float) (keys spare : List ℕ) (rank
       line-is : line ≡ countAtMost (oneIn 20) (qValues (asRanked labels scores))
       line-is = line-e ∙ rw (q-e, order-e) (ap (countAtMost (oneIn 20)) (q-in-order labels scores (w .scores-match)))
 
-      answer-is : answer ≡ Right (countsAt (asRanked labels scores) (countAtMost (oneIn 20) (qValues (asRanked labels scores))))
+      answer-is : answer
+          ≡ Right (countsAt (asRanked labels scores) (countAtMost (oneIn 20) (qValues (asRanked labels scores))))
       answer-is = answer-e ∙ rw (rows-are, line-is) (right-at-precursors labels scores (rw (w .scores-match) (w .short)))
 
       left-is : ranked₂ ≡ filled (pos 0) ranked

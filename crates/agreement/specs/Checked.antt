@@ -51,8 +51,8 @@ checkedAsked labels scores keys spare ranked order q =
     ifNot (leb labels longest && leb scores longest) TooLong
     (ifNot (eqb scores labels && (working && (eqb order labels && eqb q labels))) WrongLength Accepted)
 
--- The order of the precursors and their q-values; the line of the list as ranked is how many of these are at most 0.05.
--- Working columns "hold 0 in every place afterwards, accepted or refused".
+-- The order of the precursors and their q-values; the line of the list as ranked is how many of these are at most
+-- 0.05. Working columns "hold 0 in every place afterwards, accepted or refused".
 unfoldable pub checkedPrecursors
     : List ℤ → List Float → List ℕ → List ℕ → List ℤ → List ℕ → List Float → CheckedRun
 checkedPrecursors labels scores keys spare ranked order q =
@@ -60,7 +60,7 @@ checkedPrecursors labels scores keys spare ranked order q =
     let line = countAtMost (oneIn 20) (qValues rows) in
     let after : Line → List ℕ → List Float → CheckedRun =
     λ answer. checkedRun answer (filled 0 keys) (filled 0 spare) (filled (pos 0) ranked) in
-    answered
-    (checkedAsked (length labels) (length scores) (length keys) (length spare) (length ranked) (length order) (length q))
+    answered (checkedAsked (length labels) (length scores) (length keys) (length spare)
+    (length ranked) (length order) (length q))
     (after (Right (countsAt rows line)) (rankedOrder scores) (precursorQ labels scores))
     (λ r. after (Refused r) (filled 4294967295 order) (filled nan q))
