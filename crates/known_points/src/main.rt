@@ -222,6 +222,57 @@ fn precursors_20() {
     text(b"\n");
 }
 
+// With the check of their own line: "100 targets, one decoy: … count 100, line 100."
+fn checked_spectra() {
+    let mut labels = [1i32; 101];
+    labels[100] = -1;
+    let mut q = [0.0f32; 101];
+    text(b"100 targets, one decoy, with the check of their line:");
+    print_line(agreement::checked_spectra(&labels, &mut q));
+}
+
+// As precursors, the decoy with the least score: "40 targets, one decoy: line 41, 40 targets."
+fn checked_precursors() {
+    let mut labels = [1i32; 41];
+    labels[0] = -1;
+    let mut scores = [5.0f64; 41];
+    scores[0] = 1.0;
+    let mut keys = [9u64; 41];
+    let mut spare = [9u64; 41];
+    let mut ranked = [9i32; 41];
+    let mut order = [9u32; 41];
+    let mut q = [0.0f32; 41];
+    text(b"40 targets, one decoy, as precursors, with the check of their line:");
+    print_line(agreement::checked_precursors(
+        &labels,
+        &scores,
+        &mut keys,
+        &mut spare,
+        &mut ranked,
+        &mut order,
+        &mut q,
+    ));
+}
+
+// Question 2: a working column that is one entry short.
+fn checked_refusal() {
+    let mut keys = [9u64; 2];
+    let mut spare = [9u64; 2];
+    let mut ranked = [9i32; 1];
+    let mut order = [9u32; 2];
+    let mut q = [0.0f32; 2];
+    text(b"two precursors with a column of one entry:");
+    print_line(agreement::checked_precursors(
+        &[1i32, 1],
+        &[2.0f64, 1.0],
+        &mut keys,
+        &mut spare,
+        &mut ranked,
+        &mut order,
+        &mut q,
+    ));
+}
+
 fn print_solution(answer: Solved, first: f64, second: f64) {
     match answer {
         Solved::Answer => {
@@ -462,6 +513,9 @@ fn main() {
     targets_40();
     precursors_20();
     order_of_four();
+    checked_spectra();
+    checked_precursors();
+    checked_refusal();
     systems();
     posterior_errors();
     tolerances();
