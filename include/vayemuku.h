@@ -57,11 +57,12 @@ float vayemuku_max_f32(float a, float b);
 int32_t vayemuku_total_cmp_f64(double a, double b);
 int32_t vayemuku_total_cmp_f32(float a, float b);
 
-/* The calls below take columns as a pointer and a length. All but vayemuku_score and vayemuku_log_error return 0, or
- * refuse: then they return the number of the question that is answered with no, each result column holds only blanks at
- * its own length (NaN, or 4294967295 for 32-bit whole numbers), working columns hold 0, and of the numbers given back
- * floats are NaN and the others 0. What a call writes must not overlap with anything else that it is given: columns,
- * arrays and the numbers that pointers such as count or row point to. Columns that it only reads may overlap. */
+/* The calls below take columns as a pointer and a length. All but vayemuku_score, vayemuku_default_bins and
+ * vayemuku_log_error return 0, or refuse: then they return the number of the question that is answered with no, each
+ * result column holds only blanks at its own length (NaN, or 4294967295 for 32-bit whole numbers), working columns hold
+ * 0, and of the numbers given back floats are NaN and the others 0. What a call writes must not overlap with anything
+ * else that it is given: columns, arrays and the numbers that pointers such as count or row point to. Columns that it
+ * only reads may overlap. */
 
 /* Module 2: a system of size 1 to 20, one right-hand column; entries past the size are not read. values gets the
  * answer, with 0 past the size, or twenty NaN. Refusals: 3 the size, 7 no eps solves. */

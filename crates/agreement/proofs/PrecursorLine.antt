@@ -8,36 +8,41 @@ use native.Mathlib.Omega.{arith}
 use borrow.Author.Tests.{leb-true, eqb-true, le-leb, eq-eqb}
 use lib.Dec.{leb, eqb}
 use lib.IntN.{ℤ, pos}
-use lib.ListN.{length, getD, length-map, length-replicate}
+use lib.ListN.{length, getD, take, length-map, length-replicate}
 use lib.Seq.{ext-getD}
 use lib.Ieee.{Float, nan}
 use Rattle.folds.specs.Lists.{filled}
 use Rattle.folds.specs.Inner.All.{All}
 use Rattle.folds.proofs.Tests.{both}
 use Rattle.folds.proofs.Writing.{length-tabulated, tabulated-at, all-at, same-blank}
-use Rattle.columns.specs.Refusals.{longest, RankedRun, rankedRun}
+use Rattle.columns.specs.Refusals.{longest, answered, RankedRun, rankedRun}
 use Rattle.columns.specs.declared.Counted.{Counted}
+use Rattle.columns.specs.declared.Counted.the-variants as counted
 use Rattle.columns.specs.declared.Outcome.{Outcome}
+use Rattle.columns.specs.declared.Outcome.the-variants as outcome
 use Rattle.columns.specs.declared.Outcome.the-variants.{Accepted}
 use Rattle.columns.specs.declared.Refusal.the-variants.{TooLong, WrongLength}
 use Rattle.columns.proofs.Questions.{met, if-accepted}
 use Rattle.floats.specs.Ratio.{oneIn}
 use Rattle.floats.proofs.Ratio.{sharp-20}
-use Rattle.counting.specs.QValues.{qValues, countAtMost}
-use Rattle.counting.specs.Lines.{qualifies, rightLine}
+use Rattle.counting.specs.Labels.{targets}
+use Rattle.counting.specs.QValues.{qValues, countAtMost, targetsAtMost}
+use Rattle.counting.specs.Lines.{qualifies, RightLine, rightLine}
 use Rattle.counting.proofs.Lines.{last-in-list, right-line}
 use Rattle.counting.proofs.QValues.{q-length, count-is-line}
 use Rattle.line_check.specs.Check.{countsAt, lineAnswer}
 use Rattle.line_check.specs.declared.Rate.the-variants.{OneIn20}
+use Rattle.line_check.specs.declared.Counts.{Counts}
 use Rattle.line_check.specs.declared.Line.{Line}
+use Rattle.line_check.specs.declared.Line.the-variants as lines
 use Rattle.line_check.specs.declared.Line.the-variants.{Right}
 use Rattle.ranking.specs.Ranking.{rankedRows, rankedOrder, asRanked, rankOf}
 use Rattle.ranking.proofs.Places.{length-as-ranked, length-order, order-in-bounds, rank-of-place, labels-in-order}
 use Rattle.precursor.specs.Precursors.{precursorQ, precursorAsked, pickedPrecursor}
 use Rattle.precursor.specs.Precursors.{orderAsked, OrderRun, orderRun, precursorOrder}
-use Rattle.agreement.specs.Checked.{checkedAsked, CheckedRun, checkedRun, checkedPrecursors}
+use Rattle.agreement.specs.Checked.{AsCalled, checkedAsked, CheckedRun, checkedRun, checkedPrecursors}
 use Rattle.agreement.specs.Inner.Ready.{CheckedReady}
-use Rattle.agreement.proofs.Demand3.{map-at}
+use Rattle.agreement.proofs.Demand3.{map-at, demand-3}
 use Rattle.agreement.proofs.Checked.{right-answer}
 
 -- ---- the questions, and that both calls then accept
@@ -204,3 +209,75 @@ module _ (labels : List ℤ) (scores : List Float) (keys spare : List ℕ) (rank
           left-e
           ∙ same-blank (pos 0) ranked₁ ranked
           (ap length rows-are ∙ length-as-ranked labels scores ∙ w .scores-match ∙ sym (w .ranked-match))
+
+-- ---- what an accepted call says of the two calls that it makes
+
+checked-accepted : (o : Outcome) (x counts : Counts) (keys spare : List ℕ) (ranked : List ℤ) (order no-order : List ℕ)
+    (q no-q : List Float)
+    → answered o (checkedRun (Right x) keys spare ranked order q)
+    (λ r. checkedRun (lines.Refused r) keys spare ranked no-order no-q) .answer
+    ≡ Right counts
+    → (o ≡ Accepted) × (counts ≡ x)
+checked-accepted Accepted x counts keys spare ranked order no-order q no-q e = (refl, cc)
+checked-accepted (outcome.Refused r) x counts keys spare ranked order no-order q no-q e =
+    let z : _≡_ {A = ℕ} 0 1 = cc in absurd (omega arith)
+
+pub as-called : (labels : List ℤ) (scores : List Float) (keys spare : List ℕ) (ranked : List ℤ) (order : List ℕ)
+    (q : List Float) (counts : Counts)
+    → let run = checkedPrecursors labels scores keys spare ranked order q in
+    run .answer ≡ Right counts
+    → AsCalled labels scores (pickedPrecursor labels scores keys spare q) (precursorOrder scores keys spare order) run
+    counts
+unfolding checkedPrecursors pickedPrecursor precursorOrder
+as-called labels scores keys spare ranked order q counts e = record {
+  counts-are = a .1 ∙ ap (countsAt rows) (sym row-is);
+  right = subst (RightLine 20 rows) (sym (row-is ∙ line-is)) (right-line 20 rows);
+  count-is-targets = picked-answer ∙ ap counted.Passing (targets-are ∙ sym (ap (λ (c : Counts). c .targets) (a .1)));
+  same-q =
+      ap (λ (run : CheckedRun). run .q) (if-accepted _ _ (a .0))
+      ∙ sym (ap (λ (run : RankedRun). run .q) (if-accepted _ _ picks));
+  same-order =
+      ap (λ (run : CheckedRun). run .order) (if-accepted _ _ (a .0))
+      ∙ sym (ap (λ (run : OrderRun). run .order) (if-accepted _ _ orders));
+}
+  where
+    rows : List ℤ
+    rows = asRanked labels scores
+
+    line : ℕ
+    line = countAtMost (oneIn 20) (qValues rows)
+
+    a : (checkedAsked (length labels) (length scores) (length keys) (length spare) (length ranked) (length order)
+        (length q) ≡ Accepted) × (counts ≡ countsAt rows line)
+    a = checked-accepted _ (countsAt rows line) counts (filled 0 keys) (filled 0 spare) (filled (pos 0) ranked) (rankedOrder scores) (filled 4294967295 order) (precursorQ labels scores) (filled nan q) e
+
+    w : CheckedReady (length labels) (length scores) (length keys) (length spare) (length ranked) (length order)
+        (length q)
+    w = checked-lengths _ _ _ _ _ _ _ (a .0)
+
+    few : length rows ≤ longest
+    few = subst (λ (n : ℕ). n ≤ longest) (sym (length-as-ranked labels scores)) (rw (w .scores-match) (w .short))
+
+    row-is : counts .row ≡ line
+    row-is = ap (λ (c : Counts). c .row) (a .1)
+
+    line-is : line ≡ rightLine 20 rows
+    line-is = count-is-line rows few 20 (omega arith) sharp-20
+
+    picks : precursorAsked (length labels) (length scores) (length keys) (length spare) (length q) ≡ Accepted
+    picks = asks-precursors _ _ _ _ _ (w .short) (w .scores-match) (w .keys-match) (w .spare-match) (w .q-match)
+
+    orders : orderAsked (length scores) (length keys) (length spare) (length order) ≡ Accepted
+    orders =
+        let m = sym (w .scores-match) in
+        asks-order (length scores) _ _ _ (rw (w .scores-match) (w .short)) (w .keys-match ∙ m) (w .spare-match ∙ m) (w .order-match ∙ m)
+
+    picked-answer : pickedPrecursor labels scores keys spare q .answer
+        ≡ counted.Passing (targetsAtMost (oneIn 20) rows (qValues rows))
+    picked-answer = ap (λ (run : RankedRun). run .answer) (if-accepted _ _ picks)
+
+    targets-are : targetsAtMost (oneIn 20) rows (qValues rows) ≡ targets (take line rows)
+    targets-are =
+        demand-3 .precursors labels scores keys spare q _ (rightLine 20 rows) picked-answer
+        (last-in-list (qualifies 20 rows) (length rows)) (right-line 20 rows) .count-is-targets
+        ∙ ap (λ (n : ℕ). targets (take n rows)) (sym line-is)

@@ -35,19 +35,19 @@ module _ (c : Float) (labels : List ℤ) (q : List Float) (order : List ℕ) whe
   abbrev label : ℕ → ℤ
   label row = getD labels row (pos 0)
 
-  abbrev passes : ℕ → Bool
-  passes row = le (getD q row nan) c
+  abbrev row-passes : ℕ → Bool
+  row-passes row = le (getD q row nan) c
 
   pub record Reading (ranked : List ℤ) (passing i : ℕ) : Type 0 where
     pub ranks : Writing (λ k. label (getD order k 0)) (pos 0) (length order) ranked i
-    pub count : Counting passes order i passing
+    pub count : Counting row-passes order i passing
 
   pub reading-start : (ranked : List ℤ) → length ranked ≡ length order → Reading ranked 0 0
-  reading-start ranked e = record { ranks = writing-start e; count = counting-start passes order }
+  reading-start ranked e = record { ranks = writing-start e; count = counting-start row-passes order }
 
   -- a label comes from its 32 bits
   pub reading-step : {ranked : List ℤ} {passing i : ℕ} (b : Bool) → Reading ranked passing i → i < length order
-      → mag (label (getD order i 0)) < 2 ^ 31 → b ≡ passes (getD order i 0)
+      → mag (label (getD order i 0)) < 2 ^ 31 → b ≡ row-passes (getD order i 0)
       → Reading (set ranked i (toZ w32 (ofZ w32 (label (getD order i 0))))) (passing + boolByte b) (i + 1)
   reading-step b w h m e = record {
     ranks = writing-step (w .ranks) h (toZ-ofZ w32 _ (record { sfits = m }));

@@ -61,7 +61,7 @@ pub record OneLast (rate : ℕ) (labels : List ℤ) (line : ℕ) : Type 0 where
 pub record LineCheck (rate : ℕ) (labels : List ℤ) (line : ℕ) : Type 0 where
   pub if-right : RightLine rate labels line → lineAnswer rate labels line ≡ Right (countsAt labels line)
   pub if-wrong : (RightLine rate labels line → ⊥)
-      → (one : OneLast rate labels line) × (lineAnswer rate labels line ≡ Wrong (countsAt labels (one .row)))
+      → (last : OneLast rate labels line) × (lineAnswer rate labels line ≡ Wrong (countsAt labels (last .row)))
 
 -- the spectrum call, where it accepts, and the right line at one in 100; rows count from 1
 pub record Spectra (labels : List ℤ) (q : List Float) (count line : ℕ) : Type 0 where

@@ -11,19 +11,17 @@ use borrow.Author.Tests.{lt-ltb}
 use denote.Floats.{passes}
 use lib.Dec.{T, ltb}
 use lib.Ieee.{Float, nan, isNan, binary64, ofBits, neg, div, eq, le, lt}
+use lib.Ieee.Bits.{is-true}
 use lib.ListN.{getD, set}
 use lib.Seq.{getD-set-other}
 use Rattle.folds.specs.Walks.{steps, forRange}
-use Rattle.folds.proofs.Tests.{same-test, lt-or-ge}
+use Rattle.folds.proofs.Tests.{lt-or-ge}
 use Rattle.folds.proofs.Walks.{steps-keep, for-range-keeps, for-range-alike}
 use Rattle.floats.specs.Constants.{f64Min, f64Zero}
 use Rattle.floats.proofs.Order.{le-right, le-refl, le-trans, lt→le, lt→not-le, not-le→lt}
 use Rattle.gauss.specs.declared.Pivot.{Pivot}
 use Rattle.gauss.specs.Elimination.{Vector, Matrix, row, entry, setEntry, swapped, larger, pivotRow, subtractEntry, rowSubtracted}
 use Rattle.gauss.specs.Elimination.{clearRow, clearedBelow, echelonColumn, clearRowAbove, clearedAbove}
-
-is-true : {b : Bool} → T b → b ≡ true
-is-true {b} t = same-test b true (λ u. tt) (λ u. t)
 
 -- ---- "The pivot is the largest signed entry, not the largest size; among equals the last row wins."
 
@@ -118,8 +116,8 @@ pivot-is-largest size h k m i l u c = elim (best .picked) [
   | inl p ↦ absurd (p .1 i l u (passes _ c))
   | inr p ↦ record {
     in-rows = (p .1, p .2);
-    at-least = λ i l u c. is-true (rw (← (p .0)) (best .most i l u (passes _ c)));
-    above-later = λ i g u c. is-true (rw (← (p .0)) (best .later i (omega arith) g u (passes _ c)));
+    at-least = λ i l u c. is-true _ (rw (← (p .0)) (best .most i l u (passes _ c)));
+    above-later = λ i g u c. is-true _ (rw (← (p .0)) (best .later i (omega arith) g u (passes _ c)));
   }
 ]
   where
@@ -152,8 +150,8 @@ pivot-only size h k m i l u c p w = elim (lt-or-ge p q) [
     clash : (p q : ℕ) → Largest size h k m p → Largest size h k m q → p < q → ⊥
     clash p q w v g =
         lt→not-le (entry m q k) (entry m p k)
-        (passes _ (w .above-later q g (v .in-rows .1) (is-true (counts q v))))
-        (passes _ (v .at-least p (w .in-rows .0) (w .in-rows .1) (is-true (counts p w))))
+        (passes _ (w .above-later q g (v .in-rows .1) (is-true _ (counts q v))))
+        (passes _ (v .at-least p (w .in-rows .0) (w .in-rows .1) (is-true _ (counts p w))))
 
 -- ---- echelon: while h < m && k < n
 

@@ -69,7 +69,8 @@ fn solve_inner(left: &[[f64; 20]; 20], right: &[f64; 20], size: usize, eps: f64)
     refused(Refusal::Unsolved)
 }
 
-// The table of the system after the first two stages. Beside the other two the compiler would copy it between these.
+// The table of the system after the first two stages. With reduce and backfill in one function, the compiler copies
+// the table between stages.
 fn upper_form(left: &[[f64; 20]; 20], right: &[f64; 20], size: usize, eps: f64) -> [[f64; 21]; 20]
     requires { ⌜ size ≤ 20 ⌝ }
     ensures { λ r.

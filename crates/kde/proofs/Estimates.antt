@@ -225,6 +225,6 @@ module _ (e : Estimator) (bins : List Float) (score : Float) (t : T (fits binary
   step-plus-zero-under p q r = rw (flat-under e bins score t u flat h) (steep _ _ p q r)
 
   pub step-plus-zero-one-bin : length bins ≡ 1 → posteriorError e bins score ≡ nan
-  step-plus-zero-one-bin one =
+  step-plus-zero-one-bin single =
       let same : min (lastOf bins) 1 ≡ 0 = omega arith in
       flat-under e bins score t u flat h ∙ rw same (same-nan (firstBin bins) (inf true) (and-false (finite (firstBin bins))))
