@@ -2,6 +2,8 @@
 // and two functions over the public calls that show demand 3 of the code: each makes a list's q-values and then checks
 // the line after the rows that pass. An accepted list is always answered Right, which is proved from the contracts of
 // the calls and demand 3.
+#![tactic(auto)]
+
 ghost use Rattle.std.specs.Prelude.{◌≡◌, map, ◌<◌, pos, length, get_or};
 ghost use Rattle.std.specs.Float.{nan};
 ghost use Rattle.folds.specs.Inner.All.{All};
@@ -19,7 +21,7 @@ use line_check::{Line, Rate};
 // passes: Right with its counts, or why the list is refused.
 pub fn checked_spectra(labels: &[i32], q: &mut [f32]) -> Line
     ensures { let run = spectrum_q_value labels.now q.old in
-        result and (λ x. x.now) q.exit ≡ right_at labels.now run.answer and run.q }
+        result and q.new ≡ right_at labels.now run.answer and run.q }
 {
     match qvalue::spectrum_q_value(labels, q) {
         Counted::Refused(refusal) => Line::Refused(refusal),

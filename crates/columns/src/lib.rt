@@ -1,11 +1,13 @@
 // What every call asks of its columns, and what a refusal leaves in them (document 01, "Questions asked of each call").
+#![tactic(auto)]
+
 ghost use Rattle.std.specs.Prelude.{◌≡◌};
 ghost use Rattle.std.specs.Float.{nan};
 ghost use Rattle.folds.specs.Lists.{filled};
 ghost use Rattle.columns.specs.Refusals.{number_of, outcome_number, counted_number, counted_count};
 
 // Why a call refuses, in the order of the questions.
-#[derive(Drop)]
+#[derive(Clone, Copy)]
 pub enum Refusal {
     TooLong,
     WrongLength,
@@ -36,7 +38,7 @@ pub fn number(refusal: Refusal) -> u32
 }
 
 // The answer of a call that fills columns.
-#[derive(Drop)]
+#[derive(Clone, Copy)]
 pub enum Outcome {
     Accepted,
     Refused(Refusal),
@@ -53,7 +55,7 @@ pub fn outcome_number(answer: Outcome) -> u32
 }
 
 // The answer of a call that counts: how many rows pass, or why it refuses.
-#[derive(Drop)]
+#[derive(Clone, Copy)]
 pub enum Counted {
     Passing(usize),
     Refused(Refusal),

@@ -1,5 +1,7 @@
 // Competition of sage's fdr.rs (document 01, module 5): the table of a forward and a reverse score for each slot, with
 // its marks. A table is four columns, one entry per slot; rows are added to it batch by batch.
+#![tactic(auto)]
+
 mod batch;
 mod table;
 mod winner;
@@ -17,7 +19,7 @@ pub use winner::winners;
 pub const NO_PART: u32 = 4_294_967_295;
 
 // One slot's two sides.
-#[derive(Drop)]
+#[derive(Clone, Copy)]
 pub struct Competition {
     pub forward: f32,
     pub reverse: f32,

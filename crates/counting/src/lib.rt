@@ -1,5 +1,7 @@
 // The target-decoy counting rule: definitions in specs/, laws in proofs/. `qvalue`, `line_check` and `precursor` have
 // its calls.
+#![tactic(auto)]
+
 ghost use Rattle.std.specs.Prelude.{◌≡◌};
 ghost use Rattle.counting.specs.Labels.{decoys};
 

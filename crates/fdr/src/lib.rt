@@ -1,5 +1,7 @@
 // assign_q_value of sage's fdr.rs (document 01, module 5), for picked_protein and picked_protein_group: a competition's
 // seen sides are ranked, their posterior errors summed, and every feature row gets the q-value of its name.
+#![tactic(auto)]
+
 mod naming;
 mod packing;
 mod ratios;
@@ -19,14 +21,14 @@ use packing::pack;
 use ratios::rank;
 
 // How many names a slot's two sides have: two in picked_protein with generated decoys, one in picked_protein_group.
-#[derive(Drop)]
+#[derive(Clone, Copy)]
 pub enum Names {
     Two,
     One,
 }
 
 // What a call is set to: the names, and the estimator that gives the posterior errors.
-#[derive(Drop)]
+#[derive(Clone, Copy)]
 pub struct Settings {
     pub names: Names,
     pub estimator: Estimator,

@@ -37,7 +37,7 @@ pub fn name_q_values(names: Names, keys: &[u64], column: &mut [u64])
 
 // A feature row's q-value.
 fn row_q(names: Names, column: &[u64], slot: u32, label: i32) -> f32
-    requires all { All NumberBits column.now }
+    requires bits { All NumberBits column.now }
     requires names_in_bounds { eqb slot no_part ≡ false → NamesInBounds (length column.now) slot }
     ensures { result ≡ read_at_name names column.now slot label }
 {
@@ -50,11 +50,11 @@ fn row_q(names: Names, column: &[u64], slot: u32, label: i32) -> f32
 
 // Every feature row's q-value.
 pub fn write_rows(names: Names, column: &[u64], slots: &[u32], labels: &[i32], q: &mut [f32])
-    requires all { All NumberBits column.now }
-    requires all_2 { All (λ s. eqb s no_part ≡ false → NamesInBounds (length column.now) s) slots.now }
+    requires bits { All NumberBits column.now }
+    requires slots_in_bounds { All (λ s. eqb s no_part ≡ false → NamesInBounds (length column.now) s) slots.now }
     requires labels_len { (length labels.now ≡ length slots.now) × (length q.old ≡ length slots.now) }
-    ensures { let slots = slots.entry.now in
-        let labels = labels.entry.now in
+    ensures { let slots = slots.now in
+        let labels = labels.now in
         let read = read_at_name names column.now in
         q.new ≡ tabulated (λ i. read (get_or slots i 0) (get_or labels i (pos 0))) 0 (length slots) }
 {

@@ -1,6 +1,8 @@
 // Float helpers (document 01, module 1): what Rust's `as`, floor, ceil, min, max and total_cmp give, for every float,
 // all NaNs taken as one, in operations that lose nothing. Each contract is an equality with a definition of specs/ or
 // of the toolchain's IEEE 754.
+#![tactic(auto)]
+
 ghost use Rattle.std.specs.Prelude.{◌≡◌, ◌≤◌, false, not, T, pos, negsuc, is_nan};
 ghost use Rattle.std.specs.Float.{binary32, binary64, fin};
 ghost use Rattle.std.specs.Float.Ieee.{to_unsigned, lt, le};
@@ -205,7 +207,7 @@ pub fn max_f32(a: f32, b: f32) -> f32
 }
 
 // Rust's std::cmp::Ordering.
-#[derive(Drop)]
+#[derive(Clone, Copy)]
 pub enum Ordering {
     Less,
     Equal,

@@ -1,6 +1,8 @@
 // Gauss-Jordan elimination, after sage's gauss.rs (document 01, module 2), with the Rust's names in the Rust's order
 // and each helper after its user. Inside, a system is a table of twenty rows of twenty-one numbers, the last of a row
 // its right-hand number.
+#![tactic(auto)]
+
 ghost use Rattle.std.specs.Prelude.{◌≡◌, ◌≤◌, ◌<◌};
 ghost use Rattle.gauss.specs.Elimination.{swapped, diagonal_filled, left_solved, solved_at, echeloned, pivot_row};
 ghost use Rattle.gauss.specs.Elimination.{row_subtracted, cleared_below, row_divided, reduced};
@@ -10,7 +12,7 @@ ghost use Rattle.gauss.specs.Solutions.{solved_number, blank, joined, values, at
 use columns::Refusal;
 
 // Whether a system is solved, or why not.
-#[derive(Drop)]
+#[derive(Clone, Copy)]
 pub enum Solved {
     Answer,
     Refused(Refusal),
@@ -27,14 +29,14 @@ pub fn solved_number(answer: Solved) -> u32
 }
 
 // That, and beside it twenty numbers: those of the answer, with 0 past the size, or NaN.
-#[derive(Drop)]
+#[derive(Clone, Copy)]
 pub struct Solution {
     pub answer: Solved,
     pub values: [f64; 20],
 }
 
 // The pivot pair: a row, and its entry in the pivot's column.
-#[derive(Drop)]
+#[derive(Clone, Copy)]
 struct Pivot {
     row: usize,
     value: f64,

@@ -9,14 +9,14 @@ use crate::{Builder, Built, Estimator};
 use columns::{Outcome, Refusal};
 
 // The least and the greatest score.
-#[derive(Drop)]
+#[derive(Clone, Copy)]
 struct Range {
     min_score: f64,
     max_score: f64,
 }
 
 fn score_range(scores: &[f64]) -> Range
-    ensures { let scores = scores.entry.now in
+    ensures { let scores = scores.now in
         result ≡ record { min_score = least_score scores; max_score = greatest_score scores } }
 {
     let mut min_score: f64 = 1.7976931348623157e308;

@@ -88,7 +88,7 @@ pub fn posterior_errors(
     scores: &[f64],
     errors: &mut [f64],
 ) -> Outcome
-    ensures { let scores = scores.entry.now in
+    ensures { let scores = scores.now in
         let before = errors.old in
         column_run result errors.new ≡ posterior_errors estimator bins.now scores before }
 {

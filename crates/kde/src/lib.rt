@@ -1,6 +1,8 @@
 // sage's ml/kde.rs without its kernel (document 01, module 4): the host gives two density columns, and the port does
 // everything else in the Rust's order of operations. Each contract is an equality with a definition of specs/, for
 // every input.
+#![tactic(auto)]
+
 ghost use Rattle.std.specs.Prelude.{◌≡◌};
 ghost use Rattle.kde.specs.Bins.{fresh_builder, in_range, built_number, built_estimator};
 ghost use Rattle.kde.specs.Estimate.{posterior_number, posterior_value};
@@ -29,7 +31,7 @@ pub fn in_range(bins: usize) -> bool
 }
 
 // How bins are made: whether they never rise with the score, and how many there are.
-#[derive(Drop)]
+#[derive(Clone, Copy)]
 pub struct Builder {
     pub monotonic: bool,
     pub bins: usize,
@@ -65,14 +67,14 @@ impl Builder {
 }
 
 // Least score and step; the bin column goes beside it.
-#[derive(Drop)]
+#[derive(Clone, Copy)]
 pub struct Estimator {
     pub min_score: f64,
     pub score_step: f64,
 }
 
 // The answer of `bin_scores`.
-#[derive(Drop)]
+#[derive(Clone, Copy)]
 pub enum Built {
     Made(Estimator),
     Refused(Refusal),
@@ -102,7 +104,7 @@ pub fn built_estimator(answer: Built) -> Estimator
 }
 
 // The answer of `posterior_error`.
-#[derive(Drop)]
+#[derive(Clone, Copy)]
 pub enum Posterior {
     Error(f64),
     Refused(Refusal),
@@ -129,7 +131,7 @@ pub fn posterior_value(answer: Posterior) -> f64
 }
 
 // sage's mass::Tolerance.
-#[derive(Drop)]
+#[derive(Clone, Copy)]
 pub enum Tolerance {
     Ppm(f32, f32),
     Da(f32, f32),
@@ -137,7 +139,7 @@ pub enum Tolerance {
 }
 
 // The answer of `bin_count`.
-#[derive(Drop)]
+#[derive(Clone, Copy)]
 pub enum BinCount {
     Bins(usize),
     Refused(Refusal),

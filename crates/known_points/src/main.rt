@@ -1,5 +1,7 @@
 // Runs document 01's known points, marked or not, and prints one line a point; `stdout` holds what the document says.
 // Floats are printed by their bits.
+#![tactic(auto)]
+
 use columns::{Counted, Outcome};
 use fdr::{Names, Settings};
 use gauss::Solved;

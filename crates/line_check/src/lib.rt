@@ -1,5 +1,7 @@
 // The line check (document 01, module 7), which sage does not have. One pass: it counts up to the line, keeps those
 // counts, and goes on to the end, where the last later row that qualifies is known.
+#![tactic(auto)]
+
 ghost use Rattle.std.specs.Prelude.{◌≡◌, ◌≤◌, max, length};
 ghost use Rattle.columns.specs.Refusals.{longest};
 ghost use Rattle.counting.specs.Lines.{right_line};
@@ -8,14 +10,14 @@ ghost use Rattle.line_check.specs.Check.{per_of, counts_at, judgement, line_aske
 use columns::{Outcome, Refusal};
 
 // The two rates that lists are sold at.
-#[derive(Drop)]
+#[derive(Clone, Copy)]
 pub enum Rate {
     OneIn100,
     OneIn20,
 }
 
 // A row, and the decoys plus one and the targets up to it.
-#[derive(Drop)]
+#[derive(Clone, Copy)]
 pub struct Counts {
     pub row: usize,
     pub decoys_plus_one: usize,
@@ -23,7 +25,7 @@ pub struct Counts {
 }
 
 // The answer: whether the line is right, with the counts that it carries, or why the call refuses.
-#[derive(Drop)]
+#[derive(Clone, Copy)]
 pub enum Line {
     Right(Counts),
     Wrong(Counts),
@@ -31,7 +33,7 @@ pub enum Line {
 }
 
 // A line's answer as numbers.
-#[derive(Drop)]
+#[derive(Clone, Copy)]
 pub struct LineNumbers {
     pub number: u32,
     pub right: u32,

@@ -1,5 +1,7 @@
 // The linear discriminant, after sage's linear_discriminant.rs (document 01, module 3): the fit, a row's score, and the
 // scoring run. Feature rows are twenty f64 each, one after the other.
+#![tactic(auto)]
+
 mod fit;
 mod scatter;
 mod scores;
@@ -12,7 +14,7 @@ pub use fit::train;
 pub use scores::{score, score_rows};
 
 // Whether a fit gives coefficients, or why not.
-#[derive(Drop)]
+#[derive(Clone, Copy)]
 pub enum Trained {
     Coefficients,
     Refused(Refusal),
@@ -29,7 +31,7 @@ pub fn trained_number(answer: Trained) -> u32
 }
 
 // That, and beside it the twenty coefficients, or twenty NaN.
-#[derive(Drop)]
+#[derive(Clone, Copy)]
 pub struct Model {
     pub answer: Trained,
     pub coefficients: [f64; 20],

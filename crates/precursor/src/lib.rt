@@ -1,4 +1,6 @@
 // picked_precursor of sage's fdr.rs (document 01, module 6), and the order in which it ranks its rows.
+#![tactic(auto)]
+
 ghost use Rattle.std.specs.Prelude.{◌≡◌};
 ghost use Rattle.columns.specs.Refusals.{ranked_run};
 ghost use Rattle.precursor.specs.Precursors.{precursor_asked, picked_precursor};

@@ -1,6 +1,8 @@
 // Recorded answers of sage's unchanged Rust: numbers read from a file, least byte first, and columns compared with
 // recorded ones by their bits, with all NaNs as one. Where a file ends early, zeros are read and its end is missing;
 // `finish` says so.
+#![tactic(auto)]
+
 ghost use Rattle.std.specs.Prelude.{◌<◌};
 
 use columns::Counted;

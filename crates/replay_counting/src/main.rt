@@ -1,7 +1,8 @@
 // Replays recorded answers of the Rust's spectrum_q_value and picked_precursor. data/README.md has the layout.
+#![tactic(auto)]
 
 // The function whose answers a file has.
-#[derive(Drop)]
+#[derive(Clone, Copy)]
 enum Recorded {
     Spectrum,
     Precursors,

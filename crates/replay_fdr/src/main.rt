@@ -1,4 +1,6 @@
 // Replays recorded answers of the Rust's picked_protein and picked_protein_group. data/README.md has the layout.
+#![tactic(auto)]
+
 use fdr::{Names, Settings};
 use kde::Estimator;
 

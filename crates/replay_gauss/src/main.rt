@@ -1,4 +1,6 @@
 // Replays recorded answers of the Rust's Gauss::solve; data/README.md has the layout.
+#![tactic(auto)]
+
 use gauss::Solved;
 
 // The next row of a system of this size, with garbage past the size.

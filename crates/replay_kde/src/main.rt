@@ -1,8 +1,10 @@
 // Replays recorded answers of the Rust's Builder::build and Estimator::posterior_error. data/README.md has the layout.
+#![tactic(auto)]
+
 use kde::{Builder, Built, Estimator, Posterior};
 
 // The function whose answers a file has.
-#[derive(Drop)]
+#[derive(Clone, Copy)]
 enum Recorded {
     Build,
     PosteriorError,

@@ -1,7 +1,8 @@
 // Replays recorded answers of the Rust's LinearDiscriminantAnalysis: train and score. data/README.md has the layout.
+#![tactic(auto)]
 
 // The function whose answers a file has.
-#[derive(Drop)]
+#[derive(Clone, Copy)]
 enum Recorded {
     Train,
     Score,

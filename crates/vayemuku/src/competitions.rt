@@ -71,7 +71,7 @@ pub extern "C" fn vayemuku_winners(
     ensures { let table = table_of forward.now reverse.now
         forward_seen.now reverse_seen.now in
         let run = winners table scores.old is_decoy.old in
-        result and (λ x. x.now) scores.exit and (λ x. x.now) is_decoy.exit
+        result and scores.new and is_decoy.new
         ≡ outcome_number run.answer and run.scores and run.flags }
 {
     columns::outcome_number(competition::winners(
@@ -117,7 +117,7 @@ pub extern "C" fn vayemuku_assign_q_value(
         forward_seen.now reverse_seen.now in
         let run = assign_q_value settings bins.now table slots.now labels.now
         keys.old spare.old q.old in
-        result and (λ x. x.now) keys.exit and (λ x. x.now) spare.exit and (λ x. x.now) q.exit and (λ x. x.now) count.exit
+        result and keys.new and spare.new and q.new and count.new
         ≡ counted_number run.answer and run.keys and run.spare and run.q and counted_count run.answer }
 {
     let settings = Settings {

@@ -14,7 +14,7 @@ pub extern "C" fn vayemuku_train(
     coefficients: &mut [f64; 20],
 ) -> u32
     ensures { let model = trained features.now labels.now in
-        result and (λ x. x.now) coefficients.exit ≡ trained_number model.answer and model.coefficients }
+        result and coefficients.new ≡ trained_number model.answer and model.coefficients }
 {
     let model = linear_discriminant::train(features, labels);
     let numbers = model.coefficients;
@@ -41,7 +41,7 @@ pub extern "C" fn vayemuku_score_rows(
 ) -> u32
     ensures { let w = coefficients.now in
         let run = scored_rows w features.now scores.old narrowed.old in
-        result and (λ x. x.now) scores.exit and (λ x. x.now) narrowed.exit
+        result and scores.new and narrowed.new
         ≡ outcome_number run.answer and run.scores and run.narrowed }
 {
     columns::outcome_number(linear_discriminant::score_rows(

@@ -12,7 +12,7 @@ pub extern "C" fn vayemuku_solve(
     values: &mut [f64; 20],
 ) -> u32
     ensures { let solved = solution left.now right.now size in
-        result and (λ x. x.now) values.exit ≡ solved_number solved.answer and solved.values }
+        result and values.new ≡ solved_number solved.answer and solved.values }
 {
     let solved = gauss::solve_at(left, right, size);
     let numbers = solved.values;

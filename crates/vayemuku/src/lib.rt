@@ -1,5 +1,7 @@
 // Every call of the port, for C and Rust to link, by document 01's modules: thin functions over the proved crates, with
 // their contracts. The declarations for C are in include/vayemuku.h.
+#![tactic(auto)]
+
 mod competitions;
 mod discriminant;
 mod elimination;

@@ -18,7 +18,7 @@ pub extern "C" fn vayemuku_check_line_100(
     targets: &mut usize,
 ) -> u32
     ensures { let answer = numbers_of (line_answer 100 labels.now line) in
-        result and (λ x. x.now) right.exit and (λ x. x.now) row.exit and (λ x. x.now) decoys_plus_one.exit and (λ x. x.now) targets.exit
+        result and right.new and row.new and decoys_plus_one.new and targets.new
         ≡ answer.number and answer.right and answer.row and answer.decoys_plus_one and answer.targets }
 {
     let answer = line_check::line_numbers(line_check::check_line(labels, line, Rate::OneIn100));
@@ -40,7 +40,7 @@ pub extern "C" fn vayemuku_check_line_20(
     targets: &mut usize,
 ) -> u32
     ensures { let answer = numbers_of (line_answer 20 labels.now line) in
-        result and (λ x. x.now) right.exit and (λ x. x.now) row.exit and (λ x. x.now) decoys_plus_one.exit and (λ x. x.now) targets.exit
+        result and right.new and row.new and decoys_plus_one.new and targets.new
         ≡ answer.number and answer.right and answer.row and answer.decoys_plus_one and answer.targets }
 {
     let answer = line_check::line_numbers(line_check::check_line(labels, line, Rate::OneIn20));
@@ -63,8 +63,8 @@ pub extern "C" fn vayemuku_checked_spectra(
 ) -> u32
     ensures { let run = spectrum_q_value labels.now q.old in
         let answer = numbers_of (right_at labels.now run.answer) in
-        result and (λ x. x.now) q.exit
-        and (λ x. x.now) right.exit and (λ x. x.now) row.exit and (λ x. x.now) decoys_plus_one.exit and (λ x. x.now) targets.exit
+        result and q.new
+        and right.new and row.new and decoys_plus_one.new and targets.new
         ≡ answer.number and run.q
         and answer.right and answer.row and answer.decoys_plus_one and answer.targets }
 {
@@ -94,8 +94,8 @@ pub extern "C" fn vayemuku_checked_precursors(
     ensures { let run = checked_precursors labels.now scores.now keys.old
         spare.old ranked.old order.old q.old in
         let answer = numbers_of run.answer in
-        result and (λ x. x.now) keys.exit and (λ x. x.now) spare.exit and (λ x. x.now) ranked.exit and (λ x. x.now) order.exit and (λ x. x.now) q.exit
-        and (λ x. x.now) right.exit and (λ x. x.now) row.exit and (λ x. x.now) decoys_plus_one.exit and (λ x. x.now) targets.exit
+        result and keys.new and spare.new and ranked.new and order.new and q.new
+        and right.new and row.new and decoys_plus_one.new and targets.new
         ≡ answer.number and run.keys and run.spare and run.ranked and run.order and run.q
         and answer.right and answer.row and answer.decoys_plus_one and answer.targets }
 {

@@ -30,7 +30,7 @@ pub extern "C" fn vayemuku_bin_scores(
 ) -> u32
     ensures { let run = bin_scores_of (builder_of 1 bin_count) scores.now bin_scores.old in
         let built = built_estimator run.answer in
-        result and (λ x. x.now) bin_scores.exit and (λ x. x.now) min_score.exit and (λ x. x.now) score_step.exit
+        result and bin_scores.new and min_score.new and score_step.new
         ≡ built_number run.answer and run.bin_scores and built.min_score and built.score_step }
 {
     let builder = Builder::default().bins(bin_count);
@@ -55,7 +55,7 @@ pub extern "C" fn vayemuku_posterior_bins(
         let target = target_density.now in
         let before = bins.old in
         let run = label_bins (builder_of monotonic bin_count) labels.now decoy target before in
-        result and (λ x. x.now) bins.exit ≡ outcome_number run.answer and run.column }
+        result and bins.new ≡ outcome_number run.answer and run.column }
 {
     let builder = Builder::default().monotonic(monotonic != 0).bins(bin_count);
     columns::outcome_number(kde::posterior_bins(
@@ -81,7 +81,7 @@ pub extern "C" fn vayemuku_slot_posterior_bins(
         let target = target_density.now in
         let before = bins.old in
         let run = slot_bins (builder_of monotonic bin_count) is_decoy.now decoy target before in
-        result and (λ x. x.now) bins.exit ≡ outcome_number run.answer and run.column }
+        result and bins.new ≡ outcome_number run.answer and run.column }
 {
     let builder = Builder::default().monotonic(monotonic != 0).bins(bin_count);
     columns::outcome_number(kde::slot_posterior_bins(
@@ -103,7 +103,7 @@ pub extern "C" fn vayemuku_posterior_error(
     error: &mut f64,
 ) -> u32
     ensures { let answer = posterior_answer (estimator min_score score_step) bins.now score in
-        result and (λ x. x.now) error.exit ≡ posterior_number answer and posterior_value answer }
+        result and error.new ≡ posterior_number answer and posterior_value answer }
 {
     let estimator = Estimator {
         min_score,
@@ -125,7 +125,7 @@ pub extern "C" fn vayemuku_posterior_errors(
 ) -> u32
     ensures { let built = estimator min_score score_step in
         let run = posterior_errors built bins.now scores.now errors.old in
-        result and (λ x. x.now) errors.exit ≡ outcome_number run.answer and run.column }
+        result and errors.new ≡ outcome_number run.answer and run.column }
 {
     let estimator = Estimator {
         min_score,
@@ -151,7 +151,7 @@ fn tolerance(unit: u32, lo: f32, hi: f32) -> Tolerance
 #[unsafe(no_mangle)]
 pub extern "C" fn vayemuku_bin_count(unit: u32, lo: f32, hi: f32, bin_count: &mut usize) -> u32
     ensures { let answer = bin_count_answer (tolerance_of unit lo hi) in
-        result and (λ x. x.now) bin_count.exit ≡ bin_count_number answer and bin_count_bins answer }
+        result and bin_count.new ≡ bin_count_number answer and bin_count_bins answer }
 {
     let answer = kde::bin_count(tolerance(unit, lo, hi));
     *bin_count = kde::bin_count_bins(answer);
@@ -170,7 +170,7 @@ pub extern "C" fn vayemuku_log_error(log10: f64) -> f32
 #[unsafe(no_mangle)]
 pub extern "C" fn vayemuku_log_errors(log10s: &[f64], errors: &mut [f32]) -> u32
     ensures { let run = log_errors log10s.now errors.old in
-        result and (λ x. x.now) errors.exit ≡ outcome_number run.answer and run.column }
+        result and errors.new ≡ outcome_number run.answer and run.column }
 {
     columns::outcome_number(kde::log_errors(log10s, errors))
 }

@@ -9,7 +9,7 @@ ghost use Rattle.precursor.specs.Precursors.{picked_precursor, precursor_order};
 #[unsafe(no_mangle)]
 pub extern "C" fn vayemuku_spectrum_q_value(labels: &[i32], q: &mut [f32], count: &mut usize) -> u32
     ensures { let run = spectrum_q_value labels.now q.old in
-        result and (λ x. x.now) q.exit and (λ x. x.now) count.exit
+        result and q.new and count.new
         ≡ counted_number run.answer and run.q and counted_count run.answer }
 {
     let answer = qvalue::spectrum_q_value(labels, q);
@@ -29,7 +29,7 @@ pub extern "C" fn vayemuku_picked_precursor(
 ) -> u32
     ensures { let run = picked_precursor labels.now scores.now
         keys.old spare.old q.old in
-        result and (λ x. x.now) keys.exit and (λ x. x.now) spare.exit and (λ x. x.now) q.exit and (λ x. x.now) count.exit
+        result and keys.new and spare.new and q.new and count.new
         ≡ counted_number run.answer and run.keys and run.spare and run.q and counted_count run.answer }
 {
     let answer = precursor::picked_precursor(labels, scores, keys, spare, q);
@@ -46,7 +46,7 @@ pub extern "C" fn vayemuku_precursor_order(
     order: &mut [u32],
 ) -> u32
     ensures { let run = precursor_order scores.now keys.old spare.old order.old in
-        result and (λ x. x.now) keys.exit and (λ x. x.now) spare.exit and (λ x. x.now) order.exit
+        result and keys.new and spare.new and order.new
         ≡ outcome_number run.answer and run.keys and run.spare and run.order }
 {
     columns::outcome_number(precursor::precursor_order(scores, keys, spare, order))
@@ -56,7 +56,7 @@ pub extern "C" fn vayemuku_precursor_order(
 #[unsafe(no_mangle)]
 pub extern "C" fn vayemuku_rank_keys(keys: &mut [u64], spare: &mut [u64]) -> u32
     ensures { let run = rank_keys keys.old spare.old in
-        result and (λ x. x.now) keys.exit and (λ x. x.now) spare.exit
+        result and keys.new and spare.new
         ≡ outcome_number run.answer and run.keys and run.spare }
 {
     columns::outcome_number(ranking::rank_keys(keys, spare))
