@@ -28,6 +28,8 @@ half = fin false 1 (negsuc 0)
 pub convert_value : (w : ℕ) (x : Float) (a c : ℕ) → 0 < c → HasValue x false a c
     → to_unsigned w x ≡ min (a / c) (2 ^ w - 1)
 unfolding to_unsigned
+convert_value w nan a c C v = elim v [ ]
+convert_value w (inf _) a c C v = elim v [ ]
 convert_value w (fin s m e) a c C v = rw v.0 (ap (λ (n : ℕ). min n (2 ^ w - 1)) (div_same (m * up e) (down e) a c (down_pos e) C v.1))
 
 -- ---- the order

@@ -15,6 +15,8 @@ use Rattle.floats.proofs.Order.{lt_or_eq, gain, loss, below_is, level_is}
 
 -- from one fraction to another of the same size
 pub rescale : (x : Float) (s : Bool) (a c b d : ℕ) → 0 < c → a * d ≡ b * c → HasValue x s a c → HasValue x s b d
+rescale nan s a c b d C h v = elim v [ ]
+rescale (inf _) s a c b d C h v = elim v [ ]
 rescale (fin t m e) s a c b d C h v = (
   v.0,
   eq_of_mul-eq-mul_right c C (m * up e * d) (b * down e)
@@ -23,6 +25,8 @@ rescale (fin t m e) s a c b d C h v = (
 
 pub neg_value : (x : Float) (s : Bool) (a c : ℕ) → HasValue x s a c → HasValue (neg x) (not s) a c
 unfolding neg
+neg_value nan s a c v = elim v [ ]
+neg_value (inf _) s a c v = elim v [ ]
 neg_value (fin u m e) s a c v = (ap not v.0, v.1)
 
 pub sub_mul : (a b c : ℕ) → (a - b) * c ≡ a * c - b * c
@@ -71,6 +75,10 @@ sum_like f false a b c = refl
 module _ (s t : Bool) (a c b d : ℕ) (C : 0 < c) (D : 0 < d) where
   pub lt_at : (x y : Float) → HasValue x s a c → HasValue y t b d → lt x y ≡ below s (a * d) t (b * c)
   unfolding lt
+  lt_at nan y v w = elim v [ ]
+  lt_at (inf _) y v w = elim v [ ]
+  lt_at (fin s' m e) nan v w = elim w [ ]
+  lt_at (fin s' m e) (inf _) v w = elim w [ ]
   lt_at (fin s' m e) (fin t' n g) v w =
       sym (below_scale s' (m * up e * down g) t' (n * up g * down e) (c * d) (mul-pos C D))
       ∙ rw (v.0, w.0, cross (m * up e) (down e) a c (down g) d v.1, cross' (n * up g) (down g) b d (down e) c w.1)
@@ -78,6 +86,10 @@ module _ (s t : Bool) (a c b d : ℕ) (C : 0 < c) (D : 0 < d) where
 
   pub eq_at : (x y : Float) → HasValue x s a c → HasValue y t b d → eq x y ≡ level s (a * d) t (b * c)
   unfolding eq
+  eq_at nan y v w = elim v [ ]
+  eq_at (inf _) y v w = elim v [ ]
+  eq_at (fin s' m e) nan v w = elim w [ ]
+  eq_at (fin s' m e) (inf _) v w = elim w [ ]
   eq_at (fin s' m e) (fin t' n g) v w =
       sym (level_scale s' (m * up e * down g) t' (n * up g * down e) (c * d) (mul-pos C D))
       ∙ rw (v.0, w.0, cross (m * up e) (down e) a c (down g) d v.1, cross' (n * up g) (down g) b d (down e) c w.1)
@@ -99,6 +111,10 @@ module _ (s t : Bool) (a c b d : ℕ) (C : 0 < c) (D : 0 < d) where
   pub div_at : (f : Format) (x y : Float) → 0 < b → HasValue x s a c → HasValue y t b d
       → div f x y ≡ round f (unlike s t) (a * d) (b * c)
   unfolding div
+  div_at f nan y B v w = elim v [ ]
+  div_at f (inf _) y B v w = elim v [ ]
+  div_at f (fin s' m e) nan B v w = elim w [ ]
+  div_at f (fin s' m e) (inf _) B v w = elim w [ ]
   div_at f (fin s' m e) (fin t' zero g) B v w = absurd (lt_irrefl 0 (rw (← w.1, zero-mul, zero-mul) at (mul-pos B (down_pos g))))
   div_at f (fin s' m e) (fin t' (suc n) g) B v w =
       rw (eqb-suc-zero n, v.0, w.0)
@@ -132,6 +148,10 @@ module _ (s t : Bool) (a b c : ℕ) (C : 0 < c) where
 
   pub add_over : (f : Format) (x y : Float) → HasValue x s a c → HasValue y t b c → add f x y ≡ sum f s a t b c
   unfolding add
+  add_over f nan y v w = elim v [ ]
+  add_over f (inf _) y v w = elim v [ ]
+  add_over f (fin s' m e) nan v w = elim w [ ]
+  add_over f (fin s' m e) (inf _) v w = elim w [ ]
   add_over f (fin s' m e) (fin t' n g) v w =
       rw (v.0, w.0)
       (sum_same f s t (m * up e * down g) (n * up g * down e) (down e * down g) a b c (mul-pos (down_pos e) (down_pos g)) C

@@ -41,6 +41,9 @@ unfolding of_int div
 ratio_none d p h = over_zero (of_int binary32 (pos d)) (positive_of_value (of_int binary32 (pos d)) d 1 (count_value d h) p)
   where
     over_zero : (x : Float) → T (positive x) → div binary32 x (fin false 0 (pos 0)) ≡ inf false
+    over_zero nan h = elim h [ ]
+    over_zero (inf _) h = elim h [ ]
+    over_zero (fin true m e) h = elim h [ ]
     over_zero (fin false m e) h = rw (ne_eqb m 0 (λ (z : m ≡ 0). omega (arith, ltb→lt 0 m h)))
 
 -- Rust counts by adding 1.0 in f32

@@ -212,6 +212,8 @@ wider f m e h = rw mul-one (lt_of_lt_of_le h (mul-le-mul_right (down e) (le_of_l
 -- what the conversion to i64 asks
 castable : (f : Format) (x : Float) → Inside f x → T (le (fin true 1 (pos 63)) x) × T (lt x (fin false 1 (pos 63)))
 unfolding le
+castable f nan h = elim h [ ]
+castable f (inf _) h = elim h [ ]
 castable f (fin true m e) h =
     (rw (lt-ltb (m * up e * 1) (2 ^ 63 * down e) (wider f m e h)) tt, lt→ltb 0 (m * up e * 1 + 2 ^ 63 * down e) (omega (arith, down_pos e)))
 castable f (fin false m e) h =
@@ -233,6 +235,8 @@ abbrev pub StoredCut : Format → Float → ℤ → Type 0
 StoredCut f x z = Cut f x (to_z w64 (of_z w64 z))
 
 cut_inside : (f : Format) (x : Float) (z : ℤ) → T (fits f x) → Inside f x → z ≡ to_signed 63 x → StoredCut f x z
+cut_inside f nan z t h k = elim h [ ]
+cut_inside f (inf _) z t h k = elim h [ ]
 cut_inside f (fin s m e) z t h k =
     let q = m * up e / down e in
     let small : q < 2 ^ (prec f - 1) = (div-lt_iff_lt-mul (down_pos e)).1 h in
@@ -389,6 +393,8 @@ ceil_is f s m e t =
 -- ---- with a conversion
 convert_whole : (x : Float) (s : Bool) (n : ℕ) → HasValue x s n 1 → to_unsigned 64 x ≡ cond s 0 (min n (2 ^ 64 - 1))
 unfolding to_unsigned
+convert_whole nan s n v = elim v [ ]
+convert_whole (inf _) s n v = elim v [ ]
 convert_whole (fin u m e) s n v = rw (v.0, div-eq_of_eq-mul_left (down_pos e) (sym (mul-one (m * up e)) ∙ v.1))
 
 -- a floor before the saturating conversion changes nothing

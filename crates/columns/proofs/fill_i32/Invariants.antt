@@ -1,0 +1,12 @@
+-- `columns::fill_i32` meets its contract: the column is written from the front with one value (`Writing`),
+-- which goes through its bits (`to_z-of_z`).
+use Prim.Native.Nat.{◌-◌}
+use lib.ListN.{length}
+use Rattle.folds.proofs.Writing.{Writing}
+use Rattle.columns.proofs.fill_i32.Given as goal
+
+abbrev pub invariant-loop-i : goal.invariant-loop-i
+invariant-loop-i l = Writing (λ k. l.value) (l.value) (length l.initial.column) l.column l.i
+
+abbrev pub decreases-loop-i : goal.decreases-loop-i
+decreases-loop-i l = length l.initial.column - l.i

@@ -1,0 +1,11 @@
+-- `floats::sign` meets its contract: each arm returns its case's number.
+use Rattle.floats.proofs.sign.Goals as goal
+
+pub returns-in-Less : goal.returns-in-Less
+returns-in-Less c = rw c.in-Less.is
+
+pub returns-in-Equal : goal.returns-in-Equal
+returns-in-Equal c = rw c.in-Equal.is
+
+pub returns-in-Greater : goal.returns-in-Greater
+returns-in-Greater c = rw c.in-Greater.is
