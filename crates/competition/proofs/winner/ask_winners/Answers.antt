@@ -1,0 +1,25 @@
+-- `competition::winner::ask_winners` meets its contract: each test is the definition's.
+use mathlib.Core.Bool.{◌&&◌}
+use borrow.Author.Tests.{not-true, not-false}
+use lib.Dec.{eqb}
+use lib.ListN.{length}
+use Rattle.competition.proofs.winner.ask_winners.Goals as goal
+
+pub returns-then-not-table_short : goal.returns-then-not-table_short
+returns-then-not-table_short c = let s = c.table_short in rw (← s.ensures, c.if-not-table_short.true)
+
+pub returns-then-not-table_fits-scores : goal.returns-then-not-table_fits-scores
+returns-then-not-table_fits-scores c =
+    let s = c.table_short in
+    let f = c.table_fits in
+    let a = c.args in
+    let n = length a.forward.now in
+    rw (← s.ensures, c.if-not-table_short.false, ← f.ensures, c.if-not-table_fits-scores.true)
+
+pub returns : goal.returns
+returns c =
+    let s = c.table_short in
+    let f = c.table_fits in
+    let a = c.args in
+    let n = length a.forward.now in
+    rw (← s.ensures, c.if-not-table_short.false, ← f.ensures, c.if-not-table_fits-scores.false)

@@ -1,0 +1,17 @@
+-- `gauss::clear_above` meets its contract. The loop is the walk of `cleared_above` over the rows above i; the measure is
+-- what is left of them.
+use Prim.Native.Nat.{◌-◌}
+use Rattle.folds.proofs.Walks.{start, step_by, done}
+use Rattle.gauss.specs.Elimination.{cleared_above}
+use borrow.Author.Rules.{rules}
+use Rattle.gauss.proofs.clear_above.Goals as goal
+
+pub loop-k-init : goal.loop-k-init
+loop-k-init c = start (search rules)
+
+pub loop-k-preserved : goal.loop-k-preserved
+loop-k-preserved c = step_by c.loop-k.invariant (search rules) c.subtract.ensures
+
+pub returns : goal.returns
+unfolding cleared_above
+returns c = done c.loop-k.invariant (search rules)

@@ -1,0 +1,22 @@
+-- `gauss::pivot_row` meets its contract. The loop is the walk of `pivot_row` from row h, and the row picked is below the
+-- size; the measure is what is left of the size.
+use Prim.Native.Nat.{◌-◌}
+use mathlib.Core.Path.{ap}
+use Rattle.gauss.specs.declared.Pivot.{Pivot}
+use Rattle.folds.proofs.Walks.{start, step_by, done}
+use Rattle.gauss.specs.Elimination.{pivot_row}
+use borrow.Author.Rules.{rules}
+use Rattle.gauss.proofs.pivot_row.Goals as goal
+
+pub loop-i-init : goal.loop-i-init
+loop-i-init c = (start (search rules), search rules)
+
+pub loop-i-preserved-then-x-max : goal.loop-i-preserved-then-x-max
+loop-i-preserved-then-x-max c = (step_by c.loop-i.invariant.0 (search rules) (rw c.if-x-max.true), search rules)
+
+pub loop-i-preserved : goal.loop-i-preserved
+loop-i-preserved c = (step_by c.loop-i.invariant.0 (search rules) (rw c.if-x-max.false), search rules)
+
+pub returns : goal.returns
+unfolding pivot_row
+returns c = (ap (λ (p : Pivot). p.row) (done c.loop-i.invariant.0 (search rules)), search rules)

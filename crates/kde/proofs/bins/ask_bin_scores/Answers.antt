@@ -1,0 +1,19 @@
+-- `kde::bins::ask_bin_scores` meets its contract: each test is the definition's.
+use mathlib.Core.Path.{sym, ◌∙◌}
+use borrow.Author.Tests.{le-leb, lt-leb, eq-eqb, ne_eqb, not-true, not-false}
+use Rattle.columns.specs.Refusals.{longest}
+use Rattle.kde.proofs.bins.ask_bin_scores.Goals as goal
+
+pub returns-then-scores-gt-LONGEST : goal.returns-then-scores-gt-LONGEST
+returns-then-scores-gt-LONGEST c = rw (lt-leb _ longest c.if-scores-gt-LONGEST.true)
+
+pub returns-then-column-bins : goal.returns-then-column-bins
+returns-then-column-bins c = rw (le-leb _ longest c.if-scores-gt-LONGEST.false, ne_eqb _ _ c.if-column-bins.true)
+
+pub returns-then-not-in_range : goal.returns-then-not-in_range
+returns-then-not-in_range c =
+    rw (le-leb _ longest c.if-scores-gt-LONGEST.false, eq-eqb _ _ c.if-column-bins.false, sym c.in_range.ensures ∙ c.if-not-in_range.true)
+
+pub returns : goal.returns
+returns c =
+    rw (le-leb _ longest c.if-scores-gt-LONGEST.false, eq-eqb _ _ c.if-column-bins.false, sym c.in_range.ensures ∙ c.if-not-in_range.false)

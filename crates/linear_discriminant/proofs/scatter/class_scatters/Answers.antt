@@ -1,0 +1,55 @@
+-- `linear_discriminant::scatter::class_scatters` meets its contract. The invariant: of each class, the table and the
+-- kept rows together hold the rows passed (`Gathered`); the measure is what is left of the rows.
+use mathlib.Core.Path.{refl}
+use Prim.Native.Nat.{◌-◌}
+use native.Mathlib.Omega.{arith}
+use lib.IntN.{pos}
+use lib.ListN.{get_or}
+use borrow.Author.Rules.{rules}
+use Rattle.gauss.specs.Elimination.{row}
+use Rattle.linear_discriminant.specs.Inner.Passes.{half_tables}
+use Rattle.linear_discriminant.proofs.Classes.{class_given}
+use Rattle.linear_discriminant.proofs.KeptRows.{gathered_start, gathered_keep, gathered_add, gathered_end}
+use Rattle.linear_discriminant.proofs.Scatters.{adds, empty}
+use Rattle.linear_discriminant.proofs.scatter.class_scatters.Goals as goal
+
+pub loop-i-init : goal.loop-i-init
+loop-i-init c =
+    let a = c.args in
+    gathered_start (empty a.features.now a.labels.now (row a.means.now 0) 0) (empty a.features.now a.labels.now (row a.means.now 1) 1) refl refl
+
+pub offset_bounds-kept-m : goal.offset_bounds-kept-m
+offset_bounds-kept-m c = let h = (c.loop.invariant.each_class c.class_of.result (search rules)).few in search rules
+
+pub bounds-kept-m : goal.bounds-kept-m
+bounds-kept-m c = let h = (c.loop.invariant.each_class c.class_of.result (search rules)).few in search rules
+
+pub loop-i-preserved-then-m-lt15 : goal.loop-i-preserved-then-m-lt15
+loop-i-preserved-then-m-lt15 c =
+    let a = c.args in
+    let w = c.loop in
+    gathered_keep w.invariant (search rules) (search rules)
+    (class_given (get_or a.labels.now w.i (pos 0)) c.class_of_arg.given c.class_of.ensures)
+    c.centred.ensures (search rules)
+
+pub loop-i-preserved : goal.loop-i-preserved
+loop-i-preserved c =
+    let a = c.args in
+    let w = c.loop in
+    let k = c.class_of.result in
+    gathered_add w.invariant (search rules) (search rules)
+    (class_given (get_or a.labels.now w.i (pos 0)) c.class_of_arg.given c.class_of.ensures)
+    c.centred.ensures (adds a.features.now a.labels.now (row a.means.now k) k) (search rules) c.add_kept.ensures
+
+pub add_kept-requires-2 : goal.add_kept-requires-2
+add_kept-requires-2 c = let h = (c.loop-i.invariant.each_class 0 (omega arith)).few in search rules
+
+pub add_kept-requires-3 : goal.add_kept-requires-3
+add_kept-requires-3 c = let h = (c.loop-i.invariant.each_class 1 (omega arith)).few in search rules
+
+pub returns : goal.returns
+unfolding half_tables
+returns c =
+    let a = c.args in
+    gathered_end c.loop-i.invariant (search rules) (λ k. adds a.features.now a.labels.now (row a.means.now k) k)
+    c.add_kept-2.ensures c.add_kept-3.ensures

@@ -1,0 +1,13 @@
+-- `precursor::packing::pack_scores` meets its contract: each place of the column gets the key of its row (`Writing`).
+use mathlib.Core.List.{[]}
+use Prim.Native.Nat.{◌-◌}
+use lib.ListN.{length}
+use Rattle.folds.proofs.Writing.{Writing}
+use Rattle.ranking.specs.Inner.Rows.{row_key}
+use Rattle.precursor.proofs.packing.pack_scores.Given as goal
+
+abbrev pub invariant-loop-i : goal.invariant-loop-i
+invariant-loop-i l = Writing (row_key [] l.scores) 0 (length l.scores) l.keys l.i
+
+abbrev pub decreases-loop-i : goal.decreases-loop-i
+decreases-loop-i l = length l.scores - l.i

@@ -1,0 +1,48 @@
+-- `precursor::picked_precursor` meets its contract: the questions' answer picks what is answered and left (`picked`).
+use mathlib.Core.Path.{◌≡◌, refl, sym, ap, ◌∙◌}
+use lib.ListN.{length}
+use Rattle.columns.proofs.Questions.{if_accepted, if_refused}
+use Rattle.ranking.specs.Sorted.{sorted}
+use Rattle.precursor.specs.Precursors.{picked_precursor}
+use Rattle.precursor.specs.Inner.Ready.{PrecursorReady}
+use Rattle.precursor.proofs.Questions.{precursor_lengths}
+use Rattle.precursor.proofs.Joined.{assign_asks, picked}
+use Rattle.precursor.proofs.picked_precursor.Goals as goal
+use Rattle.precursor.proofs.picked_precursor.Goals.{In-Accepted}
+
+questions_met : (c : In-Accepted)
+    → (let a = c.args in
+    (length a.labels.now ≡ length a.scores.now)
+    × PrecursorReady (length a.scores.now) (length a.keys.now) (length a.spare.now)
+    (length a.q.now))
+questions_met c = precursor_lengths _ _ _ _ _ (sym c.ask.ensures ∙ c.in-Accepted.is)
+
+pub pack-requires : goal.pack-requires
+pack-requires c = let m = questions_met c.before in record { labels_len = (m.0, m.1.keys_match); scores_len_bound = m.1.short }
+
+pub sort-requires : goal.sort-requires
+sort-requires c =
+    let m = questions_met c.before.before.before.before.before.before in
+    m.1.spare_match ∙ sym (c.pack.auto.1.1.0 ∙ m.1.keys_match)
+
+pub assign_q_value-passing-requires : goal.assign_q_value-passing-requires
+assign_q_value-passing-requires c =
+    let a = c.args in
+    let w = assign_asks a.labels.now a.scores.now a.keys.now a.spare.now (questions_met c.before.before.before.before.before.before.before.before.before.before.before.before.before).1 _ (c.sort.ensures.0 ∙ ap sorted c.pack.ensures) in
+    record { keys_len_bound = w.0; places_in_bounds = w.1 }
+
+pub returns-in-Refused : goal.returns-in-Refused
+unfolding picked_precursor
+returns-in-Refused c =
+    let blanks = c.blank.ensures in
+    rw (blanks.0, blanks.1.0, blanks.1.1) (sym (if_refused _ _ (sym c.ask.ensures ∙ c.in-Refused.is)))
+
+pub returns-in-Accepted : goal.returns-in-Accepted
+unfolding picked_precursor
+returns-in-Accepted c =
+    let a = c.args in
+    let m = questions_met c.before.before.before.before.before.before.before.before.before.before.before.before.before.before.before.before.before.before.before.before.before.before.before in
+    rw (c.clear.ensures.keys, c.clear.ensures.spare)
+    (picked a.labels.now a.scores.now a.keys.now a.spare.now m.1 _ (c.sort.ensures.0 ∙ ap sorted c.pack.ensures) a.q.now refl m.0
+    _ _ c.sort.new.1.0 c.assign_q_value-passing.ensures.count c.assign_q_value-passing.ensures.column c.sort.ensures.1
+    ∙ sym (if_accepted _ _ (sym c.ask.ensures ∙ c.enum_told.given.1)))

@@ -1,0 +1,10 @@
+-- `vayemuku_picked_precursor` meets its contract: the number, the count and the columns of what the call answers.
+use mathlib.Core.Path.{ap}
+use Rattle.columns.specs.Refusals.{counted_number, counted_count, ◌and◌, RankedRun}
+use Rattle.vayemuku.proofs.q_values.vayemuku_picked_precursor.Goals as goal
+
+pub returns : goal.returns
+returns c =
+    rw (c.counted_number.ensures, c.counted_count.ensures)
+    (ap (λ (run : RankedRun). counted_number run.answer and run.keys and run.spare and run.q and counted_count run.answer)
+    c.picked_precursor-answer.ensures)
