@@ -156,6 +156,8 @@ module _ (e : Estimator) (bins : List Float) (score : Float) (t : T (fits binary
   flat_score bin h = rw (flat, go (round binary64 false bin 1) (round_whole binary64 false bin (omega arith)))
     where
       go : (x : Float) → HasValue x false bin 1 → mul binary64 x plus_zero ≡ plus_zero
+      go nan v = elim v [ ]
+      go (inf _) v = elim v [ ]
       go (fin s m d) v = rw v.0 (mul_plus_zero binary64 m d)
 
   first_eq : T (eq e.min_score score) → T (eq (add binary64 plus_zero e.min_score) score)

@@ -4,23 +4,21 @@ use Rattle.agreement.proofs.make_and_check.Goals as goal
 
 pub read_ranked-line-requires : goal.read_ranked-line-requires
 read_ranked-line-requires c =
-    let s = c.before in
-    let p = s.args in
-    let picked = picked_is p.labels.now p.scores.now p.keys.now p.spare.now p.ranked.now p.order.now p.q.now s.requires _ _ _ _
+    let p = c.args in
+    let picked = picked_is p.labels.now p.scores.now p.keys.now p.spare.now p.ranked.now p.order.now p.q.now c.requires _ _ _ _
     c.picked_precursor.ensures in
-    let order = order_is p.labels.now p.scores.now p.keys.now p.spare.now p.ranked.now p.order.now p.q.now s.requires _ _ _ _ _ _
+    let order = order_is p.labels.now p.scores.now p.keys.now p.spare.now p.ranked.now p.order.now p.q.now c.requires _ _ _ _ _ _
     picked.1 picked.2 c.precursor_order.ensures in
-    let w = reads p.labels.now p.scores.now p.keys.now p.spare.now p.ranked.now p.order.now p.q.now s.requires _ _ picked.0 order.0 in
+    let w = reads p.labels.now p.scores.now p.keys.now p.spare.now p.ranked.now p.order.now p.q.now c.requires _ _ picked.0 order.0 in
     record { q_len = w.0; all = w.1 }
 
 pub returns : goal.returns
 returns c =
-    let s = c.before.before in
-    let p = s.args in
-    let picked = picked_is p.labels.now p.scores.now p.keys.now p.spare.now p.ranked.now p.order.now p.q.now s.requires _ _ _ _
+    let p = c.args in
+    let picked = picked_is p.labels.now p.scores.now p.keys.now p.spare.now p.ranked.now p.order.now p.q.now c.requires _ _ _ _
     c.picked_precursor.ensures in
-    let order = order_is p.labels.now p.scores.now p.keys.now p.spare.now p.ranked.now p.order.now p.q.now s.requires _ _ _ _ _ _
+    let order = order_is p.labels.now p.scores.now p.keys.now p.spare.now p.ranked.now p.order.now p.q.now c.requires _ _ _ _ _ _
     picked.1 picked.2 c.precursor_order.ensures in
-    checked_is p.labels.now p.scores.now p.keys.now p.spare.now p.ranked.now p.order.now p.q.now s.requires _ _ _ _ _ _ _ _
-    picked.0 order.1 order.2 order.0 c.read_ranked.ensures.0 c.read_ranked.ensures.1
+    checked_is p.labels.now p.scores.now p.keys.now p.spare.now p.ranked.now p.order.now p.q.now c.requires _ _ _ _ _ _ _ _
+    picked.0 order.1 order.2 order.0 c.read_ranked-line.ensures.count c.read_ranked-line.ensures.column
     c.check_line-answer.ensures c.fill_i32.ensures

@@ -17,13 +17,13 @@ table s = let a = s.args in table_of a.forward.now a.reverse.now a.forward-seen.
 packs : (c : After-pack-rows)
     → Packs (start c).args.bins.now (table (start c)) (start c).args.slots.now (start c).args.labels.now
     (start c).args.keys.now
-    (start c).args.spare.now (start c).args.q.now c.pack-rows.result c.pack-rows.new.1.1.1.1.0
+    (start c).args.spare.now (start c).args.q.now c.pack-rows.result c.pack-rows.new.keys
 packs c = record {
   ready = (start c).requires;
   forward_fit = c.shared_slice_known-2-1.given;
   reverse_fit = c.shared_slice_known-3-1.given;
   few = c.pack-rows.ensures.few;
-  same = c.pack-rows.auto.1.1.1.1.0;
+  same = c.pack-rows.auto.keys;
   front = c.pack-rows.ensures.keys;
 }
 
@@ -32,15 +32,15 @@ ranks : (c : After-rank-passing)
     (start c.before.before.before.before.before).args.bins.now
     (table (start c.before.before.before.before.before))
     (take c.pack-rows.result
-    c.pack-rows.new.1.1.1.1.0)
+    c.pack-rows.new.keys)
     (take c.pack-rows.result
     (start c.before.before.before.before.before).args.spare.now)
-    c.rank-passing.result c.rank-passing.new.1.1.1.1.0 c.rank-passing.new.1.1.1.1.1.0
+    c.rank-passing.result c.rank-passing.new.keys c.rank-passing.new.spare
 ranks c = record {
   count_is = c.rank-passing.ensures.count;
   keys_are = c.rank-passing.ensures.keys;
-  same_keys = c.rank-passing.auto.1.1.1.1.0;
-  same_spare = c.rank-passing.auto.1.1.1.1.1.0;
+  same_keys = c.rank-passing.auto.keys;
+  same_spare = c.rank-passing.auto.spare;
 }
 
 pub slice_bounds-rank-end-2 : goal.slice_bounds-rank-end-2

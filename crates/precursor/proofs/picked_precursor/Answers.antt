@@ -23,12 +23,12 @@ pack-requires c = let m = questions_met c.before in record { labels_len = (m.0, 
 pub sort-requires : goal.sort-requires
 sort-requires c =
     let m = questions_met c.before.before.before.before.before.before in
-    m.1.spare_match ∙ sym (c.pack.auto.1.1.0 ∙ m.1.keys_match)
+    m.1.spare_match ∙ sym (c.pack.auto.keys ∙ m.1.keys_match)
 
 pub assign_q_value-passing-requires : goal.assign_q_value-passing-requires
 assign_q_value-passing-requires c =
     let a = c.args in
-    let w = assign_asks a.labels.now a.scores.now a.keys.now a.spare.now (questions_met c.before.before.before.before.before.before.before.before.before.before.before.before.before).1 _ (c.sort.ensures.0 ∙ ap sorted c.pack.ensures) in
+    let w = assign_asks a.labels.now a.scores.now a.keys.now a.spare.now (questions_met c.before.before.before.before.before.before.before.before.before.before.before.before.before).1 _ (c.sort.ensures.keys ∙ ap sorted c.pack.ensures) in
     record { keys_len_bound = w.0; places_in_bounds = w.1 }
 
 pub returns-in-Refused : goal.returns-in-Refused
@@ -43,6 +43,6 @@ returns-in-Accepted c =
     let a = c.args in
     let m = questions_met c.before.before.before.before.before.before.before.before.before.before.before.before.before.before.before.before.before.before.before.before.before.before.before in
     rw (c.clear.ensures.keys, c.clear.ensures.spare)
-    (picked a.labels.now a.scores.now a.keys.now a.spare.now m.1 _ (c.sort.ensures.0 ∙ ap sorted c.pack.ensures) a.q.now refl m.0
-    _ _ c.sort.new.1.0 c.assign_q_value-passing.ensures.count c.assign_q_value-passing.ensures.column c.sort.ensures.1
-    ∙ sym (if_accepted _ _ (sym c.ask.ensures ∙ c.enum_told.given.1)))
+    (picked a.labels.now a.scores.now a.keys.now a.spare.now m.1 _ (c.sort.ensures.keys ∙ ap sorted c.pack.ensures) a.q.now refl m.0
+    _ _ c.sort.new.spare c.assign_q_value-passing.ensures.count c.assign_q_value-passing.ensures.column c.sort.ensures.spare
+    ∙ sym (if_accepted _ _ (sym c.ask.ensures ∙ c.in-Accepted.is)))

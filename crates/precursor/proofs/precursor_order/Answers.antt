@@ -22,12 +22,12 @@ pack_scores-requires c = let m = questions_met c.before in (m.keys_match, m.shor
 pub sort-requires : goal.sort-requires
 sort-requires c =
     let m = questions_met c.before.before.before.before.before.before in
-    m.spare_match ∙ sym (c.pack_scores.auto.1.0 ∙ m.keys_match)
+    m.spare_match ∙ sym (c.pack_scores.auto.keys ∙ m.keys_match)
 
 pub write_order-requires : goal.write_order-requires
 write_order-requires c =
     let m = questions_met c.before.before.before.before.before.before.before.before.before.before.before.before.before in
-    m.result_match ∙ sym (c.sort.auto.0 ∙ c.pack_scores.auto.1.0 ∙ m.keys_match)
+    m.result_match ∙ sym (c.sort.auto.keys ∙ c.pack_scores.auto.keys ∙ m.keys_match)
 
 pub returns-in-Refused : goal.returns-in-Refused
 unfolding precursor_order
@@ -40,6 +40,6 @@ unfolding precursor_order
 returns-in-Accepted c =
     let a = c.args in
     rw (c.clear-in-Accepted.ensures.keys, c.clear-in-Accepted.ensures.spare)
-    (ordered [] a.scores.now a.keys.now a.spare.now (questions_met c.before.before.before.before.before.before.before.before.before.before.before.before.before.before.before.before.before.before.before.before.before.before.before) _ (c.sort.ensures.0 ∙ ap sorted c.pack_scores.ensures)
-    _ c.sort.new.1.0 c.write_order.ensures c.sort.ensures.1
-    ∙ sym (if_accepted _ _ (sym c.ask_order.ensures ∙ c.enum_told.given.1)))
+    (ordered [] a.scores.now a.keys.now a.spare.now (questions_met c.before.before.before.before.before.before.before.before.before.before.before.before.before.before.before.before.before.before.before.before.before.before.before) _ (c.sort.ensures.keys ∙ ap sorted c.pack_scores.ensures)
+    _ c.sort.new.spare c.write_order.ensures c.sort.ensures.spare
+    ∙ sym (if_accepted _ _ (sym c.ask_order.ensures ∙ c.in-Accepted.is)))

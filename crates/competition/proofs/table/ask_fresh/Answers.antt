@@ -3,16 +3,12 @@ use borrow.Author.Tests.{not-true, not-false}
 use Rattle.competition.proofs.table.ask_fresh.Goals as goal
 
 pub returns-then-not-table_short : goal.returns-then-not-table_short
-returns-then-not-table_short c = let s = c.table_short in rw (← s.ensures, c.if-not-table_short.true)
+returns-then-not-table_short c = rw (← c.table_short.ensures, c.if-not-table_short.true)
 
 pub returns-then-not-table_fits : goal.returns-then-not-table_fits
 returns-then-not-table_fits c =
-    let s = c.table_short in
-    let f = c.table_fits in
-    rw (← s.ensures, c.if-not-table_short.false, ← f.ensures, c.if-not-table_fits.true)
+    rw (← c.table_short.ensures, c.if-not-table_short.false, ← c.table_fits.ensures, c.if-not-table_fits.true)
 
 pub returns : goal.returns
 returns c =
-    let s = c.table_short in
-    let f = c.table_fits in
-    rw (← s.ensures, c.if-not-table_short.false, ← f.ensures, c.if-not-table_fits.false)
+    rw (← c.table_short.ensures, c.if-not-table_short.false, ← c.table_fits.ensures, c.if-not-table_fits.false)

@@ -1,5 +1,6 @@
 -- `competition::winner::write_winners` meets its contract: a turn writes one slot's score and flag (`Slotwise`).
-use Prim.Native.Nat.{◌-◌}
+use mathlib.Core.Path.{ap}
+use mathlib.Core.Bool.{not}
 use borrow.Author.Rules.{rules}
 use Rattle.competition.proofs.Slotwise.{slotwise_start, slotwise_unseen, slotwise_seen, slotwise_done}
 use Rattle.competition.proofs.winner.write_winners.Goals as goal
@@ -9,11 +10,11 @@ loop-slot-init c = slotwise_start c.requires
 
 pub loop-slot-preserved-then-not-is_seen : goal.loop-slot-preserved-then-not-is_seen
 loop-slot-preserved-then-not-is_seen c =
-    slotwise_unseen c.loop-slot.invariant (search rules) c.is_seen.ensures c.is_seen-in-loop-slot.ensures c.if-not-is_seen.true
+    slotwise_unseen c.loop-slot.invariant (search rules) c.is_seen.ensures c.is_seen-in-loop-slot.ensures (ap not c.if-not-is_seen.true)
 
 pub loop-slot-preserved : goal.loop-slot-preserved
 loop-slot-preserved c =
-    slotwise_seen c.loop-slot.invariant (search rules) c.is_seen.ensures c.is_seen-in-loop-slot.ensures c.if-not-is_seen.false _
+    slotwise_seen c.loop-slot.invariant (search rules) c.is_seen.ensures c.is_seen-in-loop-slot.ensures (ap not c.if-not-is_seen.false) _
     c.score.ensures c.is_decoy.ensures
 
 pub returns : goal.returns

@@ -13,7 +13,7 @@ in_bounds : (c : After-name_of-name)
     → c.name_of-name.result < length c.loop-i.column
 in_bounds c =
     naming_in_bounds _ _ _ c.loop-i.invariant (search rules) c.place_of.ensures c.decoy_bit.ensures _ c.name_of-name.ensures _
-    c.fill_u64.auto.0 c.requires
+    c.fill_u64.auto.column c.requires
 
 pub loop-i-init : goal.loop-i-init
 loop-i-init c = naming_start _ _ _
@@ -29,7 +29,7 @@ loop-i-preserved c =
     naming_step _ _ _ c.loop-i.invariant (search rules) c.place_of.ensures c.decoy_bit.ensures _ c.name_of-name.ensures _ c.upper_of.ensures
 
 pub shape_of-column : goal.shape_of-column
-shape_of-column c = c.loop-i.invariant.same ∙ c.fill_u64.auto.0
+shape_of-column c = c.loop-i.invariant.same ∙ c.fill_u64.auto.column
 
 pub returns : goal.returns
 returns c =

@@ -13,7 +13,7 @@ pub loop-slot-preserved : goal.loop-slot-preserved
 loop-slot-preserved c =
     packing_step _ c.loop-slot.invariant (search rules) c.payload.ensures c.payload-in-loop-slot.ensures
     _ _ _ c.key-forward_key.ensures c.put-rows.ensures.few c.put-rows.ensures.keys
-    _ _ _ c.key-reverse_key.ensures c.put-rows-in-loop-slot.ensures.few c.put-rows-in-loop-slot.ensures.keys (c.put-rows-in-loop-slot.auto.0 ∙ c.put-rows.auto.0)
+    _ _ _ c.key-reverse_key.ensures c.put-rows-in-loop-slot.ensures.few c.put-rows-in-loop-slot.ensures.keys (c.put-rows-in-loop-slot.auto.keys ∙ c.put-rows.auto.keys)
 
 pub returns : goal.returns
 returns c =

@@ -10,11 +10,11 @@ write_ratios-requires c = still_ready _ _ c.sort.ensures.keys c.requires.ratios_
 pub take_minima-requires : goal.take_minima-requires
 take_minima-requires c =
     let a = c.args in
-    minima_ask a.settings a.bins.now (table_of a.forward.now a.reverse.now [] []) c.sort.new.0 _ c.write_ratios.ensures
+    minima_ask a.settings a.bins.now (table_of a.forward.now a.reverse.now [] []) c.sort.new.keys _ c.write_ratios.ensures
 
 pub returns : goal.returns
 returns c =
     let a = c.args in
-    let w = rank_done a.settings a.bins.now (table_of a.forward.now a.reverse.now [] []) c.sort.new.0 _ c.sort.ensures.keys _
+    let w = rank_done a.settings a.bins.now (table_of a.forward.now a.reverse.now [] []) c.sort.new.keys _ c.sort.ensures.keys _
     c.write_ratios.ensures _ _ c.take_minima.ensures.count c.take_minima.ensures.keys in
     record { count = w.0; keys = w.1 }

@@ -19,26 +19,26 @@ loop-i-init c =
     gathered_start (empty a.features.now a.labels.now (row a.means.now 0) 0) (empty a.features.now a.labels.now (row a.means.now 1) 1) refl refl
 
 pub offset_bounds-kept-m : goal.offset_bounds-kept-m
-offset_bounds-kept-m c = let h = (c.loop.invariant.each_class c.class_of.result (search rules)).few in search rules
+offset_bounds-kept-m c = let h = (c.loop-i.invariant.each_class c.class_of-c.result (search rules)).few in search rules
 
 pub bounds-kept-m : goal.bounds-kept-m
-bounds-kept-m c = let h = (c.loop.invariant.each_class c.class_of.result (search rules)).few in search rules
+bounds-kept-m c = let h = (c.loop-i.invariant.each_class c.class_of-c.result (search rules)).few in search rules
 
 pub loop-i-preserved-then-m-lt15 : goal.loop-i-preserved-then-m-lt15
 loop-i-preserved-then-m-lt15 c =
     let a = c.args in
-    let w = c.loop in
+    let w = c.loop-i in
     gathered_keep w.invariant (search rules) (search rules)
-    (class_given (get_or a.labels.now w.i (pos 0)) c.class_of_arg.given c.class_of.ensures)
+    (class_given (get_or a.labels.now w.i (pos 0)) c.class_of-arg-1.given c.class_of-c.ensures)
     c.centred.ensures (search rules)
 
 pub loop-i-preserved : goal.loop-i-preserved
 loop-i-preserved c =
     let a = c.args in
-    let w = c.loop in
-    let k = c.class_of.result in
+    let w = c.loop-i in
+    let k = c.class_of-c.result in
     gathered_add w.invariant (search rules) (search rules)
-    (class_given (get_or a.labels.now w.i (pos 0)) c.class_of_arg.given c.class_of.ensures)
+    (class_given (get_or a.labels.now w.i (pos 0)) c.class_of-arg-1.given c.class_of-c.ensures)
     c.centred.ensures (adds a.features.now a.labels.now (row a.means.now k) k) (search rules) c.add_kept.ensures
 
 pub add_kept-requires-2 : goal.add_kept-requires-2

@@ -10,7 +10,7 @@ pub loop-k-init : goal.loop-k-init
 loop-k-init c = writing_start refl
 
 pub loop-k-preserved : goal.loop-k-preserved
-loop-k-preserved c = writing_step c.loop.invariant (search rules) (rw (c.scatter_of.ensures, c.scatter_of-in-loop-k.ensures))
+loop-k-preserved c = writing_step c.loop-k.invariant (search rules) (rw (c.scatter_of.ensures, c.scatter_of-in-loop-k.ensures))
 
 pub returns : goal.returns
 unfolding within_row

@@ -14,8 +14,8 @@ loop-from-init c = (writing_start (search rules), writing_start (search rules))
 
 pub loop-from-preserved : goal.loop-from-preserved
 loop-from-preserved c =
-    let e = c.block_end.ensures in
-    let w = c.loop.invariant in
+    let e = c.block_end-to.ensures in
+    let w = c.loop-from.invariant in
     let scored = written_block w.0 (search rules) (search rules) (λ i p q. refl) c.score_block.ensures in
     (scored, written_block w.1 (search rules) (search rules) (λ i p q. ap (converted binary32) (scored.is i q)) c.narrow_block.ensures)
 
