@@ -8,40 +8,34 @@ use Rattle.precursor.specs.Inner.Ready.{PrecursorReady}
 use Rattle.precursor.proofs.Questions.{precursor_lengths}
 use Rattle.precursor.proofs.Joined.{assign_asks, picked}
 use Rattle.precursor.proofs.picked_precursor.Goals as goal
-use Rattle.precursor.proofs.picked_precursor.Goals.{In-Accepted}
-
-questions_met : (c : In-Accepted)
-    → (let a = c.args in
-    (length a.labels.now ≡ length a.scores.now)
-    × PrecursorReady (length a.scores.now) (length a.keys.now) (length a.spare.now)
-    (length a.q.now))
-questions_met c = precursor_lengths _ _ _ _ _ (sym c.ask.ensures ∙ c.in-Accepted.is)
 
 pub pack-requires : goal.pack-requires
-pack-requires c = let m = questions_met c.before in record { labels_len = (m.0, m.1.keys_match); scores_len_bound = m.1.short }
+pack-requires c = let m = precursor_lengths _ _ _ _ _ (sym c.ask.ensures ∙ c.in-Accepted.is) in record { labels_len = (m.0, m.1.keys_match); scores_len_bound = m.1.short }
 
 pub sort-requires : goal.sort-requires
 sort-requires c =
-    let m = questions_met c.before.before.before.before.before.before in
+    let a = c.args in
+    let m = precursor_lengths (length a.labels.now) (length a.scores.now) (length a.keys.now) (length a.spare.now)
+    (length a.q.now) (sym c.ask.ensures ∙ c.in-Accepted.is) in
     m.1.spare_match ∙ sym (c.pack.auto.keys ∙ m.1.keys_match)
 
 pub assign_q_value-passing-requires : goal.assign_q_value-passing-requires
 assign_q_value-passing-requires c =
     let a = c.args in
-    let w = assign_asks a.labels.now a.scores.now a.keys.now a.spare.now (questions_met c.before.before.before.before.before.before.before.before.before.before.before.before.before).1 _ (c.sort.ensures.keys ∙ ap sorted c.pack.ensures) in
+    let w = assign_asks a.labels.now a.scores.now a.keys.now a.spare.now (precursor_lengths _ _ _ _ _ (sym c.ask.ensures ∙ c.in-Accepted.is)).1 _ (c.sort.ensures.keys ∙ ap sorted c.pack.ensures) in
     record { keys_len_bound = w.0; places_in_bounds = w.1 }
 
 pub returns-in-Refused : goal.returns-in-Refused
 unfolding picked_precursor
 returns-in-Refused c =
     let blanks = c.blank.ensures in
-    rw (blanks.0, blanks.1.0, blanks.1.1) (sym (if_refused _ _ (sym c.ask.ensures ∙ c.in-Refused.is)))
+    rw (blanks.keys, blanks.spare, blanks.q) (sym (if_refused _ _ (sym c.ask.ensures ∙ c.in-Refused.is)))
 
 pub returns-in-Accepted : goal.returns-in-Accepted
 unfolding picked_precursor
 returns-in-Accepted c =
     let a = c.args in
-    let m = questions_met c.before.before.before.before.before.before.before.before.before.before.before.before.before.before.before.before.before.before.before.before.before.before.before in
+    let m = precursor_lengths _ _ _ _ _ (sym c.ask.ensures ∙ c.in-Accepted.is) in
     rw (c.clear.ensures.keys, c.clear.ensures.spare)
     (picked a.labels.now a.scores.now a.keys.now a.spare.now m.1 _ (c.sort.ensures.keys ∙ ap sorted c.pack.ensures) a.q.now refl m.0
     _ _ c.sort.new.spare c.assign_q_value-passing.ensures.count c.assign_q_value-passing.ensures.column c.sort.ensures.spare

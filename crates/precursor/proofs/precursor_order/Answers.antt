@@ -9,24 +9,18 @@ use Rattle.precursor.specs.Inner.Ready.{PrecursorReady}
 use Rattle.precursor.proofs.Questions.{order_lengths}
 use Rattle.precursor.proofs.Joined.{ordered}
 use Rattle.precursor.proofs.precursor_order.Goals as goal
-use Rattle.precursor.proofs.precursor_order.Goals.{In-Accepted}
-
-questions_met : (c : In-Accepted)
-    → (let a = c.args in
-    PrecursorReady (length a.scores.now) (length a.keys.now) (length a.spare.now) (length a.order.now))
-questions_met c = order_lengths _ _ _ _ (sym c.ask_order.ensures ∙ c.in-Accepted.is)
 
 pub pack_scores-requires : goal.pack_scores-requires
-pack_scores-requires c = let m = questions_met c.before in (m.keys_match, m.short)
+pack_scores-requires c = let m = order_lengths _ _ _ _ (sym c.ask_order.ensures ∙ c.in-Accepted.is) in (m.keys_match, m.short)
 
 pub sort-requires : goal.sort-requires
 sort-requires c =
-    let m = questions_met c.before.before.before.before.before.before in
+    let m = order_lengths _ _ _ _ (sym c.ask_order.ensures ∙ c.in-Accepted.is) in
     m.spare_match ∙ sym (c.pack_scores.auto.keys ∙ m.keys_match)
 
 pub write_order-requires : goal.write_order-requires
 write_order-requires c =
-    let m = questions_met c.before.before.before.before.before.before.before.before.before.before.before.before.before in
+    let m = order_lengths _ _ _ _ (sym c.ask_order.ensures ∙ c.in-Accepted.is) in
     m.result_match ∙ sym (c.sort.auto.keys ∙ c.pack_scores.auto.keys ∙ m.keys_match)
 
 pub returns-in-Refused : goal.returns-in-Refused
@@ -40,6 +34,6 @@ unfolding precursor_order
 returns-in-Accepted c =
     let a = c.args in
     rw (c.clear-in-Accepted.ensures.keys, c.clear-in-Accepted.ensures.spare)
-    (ordered [] a.scores.now a.keys.now a.spare.now (questions_met c.before.before.before.before.before.before.before.before.before.before.before.before.before.before.before.before.before.before.before.before.before.before.before) _ (c.sort.ensures.keys ∙ ap sorted c.pack_scores.ensures)
+    (ordered [] a.scores.now a.keys.now a.spare.now (order_lengths _ _ _ _ (sym c.ask_order.ensures ∙ c.in-Accepted.is)) _ (c.sort.ensures.keys ∙ ap sorted c.pack_scores.ensures)
     _ c.sort.new.spare c.write_order.ensures c.sort.ensures.spare
     ∙ sym (if_accepted _ _ (sym c.ask_order.ensures ∙ c.in-Accepted.is)))

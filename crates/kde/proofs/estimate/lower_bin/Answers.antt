@@ -26,9 +26,10 @@ pub whole_part-requires : goal.whole_part-requires
 whole_part-requires c = rw (cut c) (held_range c.args.last (omega arith) _)
 
 pub returns : goal.returns
+unfolding of_bits
 returns c =
     let a = c.args in
     c.whole_part.ensures
-    ∙ ap (to_unsigned 64) (cut c.before)
+    ∙ ap (to_unsigned 64) (c.min_f64-held.ensures ∙ ap (min_number (past_half a.last)) c.max_f64.ensures)
     ∙ held_is a.last (omega arith) (quotient a.estimator a.score)
     ∙ ap (min a.last) (sym (steps_are a.estimator a.score))
