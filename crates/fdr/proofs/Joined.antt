@@ -125,6 +125,27 @@ pub record Ranks (settings : Settings) (bins : List Float) (t : Table) (keys spa
   pub same_keys : length keys₁ ≡ length keys
   pub same_spare : length spare₁ ≡ length spare
 
+pub packs : (bins : List Float) {t : Table} {slots : List ℕ} (labels : List ℤ) (keys₀ spare₀ : List ℕ) (q₀ : List Float)
+    {rows : ℕ} (keys₁ : List ℕ)
+    → AssignReady t (length bins) slots (length labels) (length keys₀) (length spare₀) (length q₀)
+    → ((i : ℕ) → T (fits binary32 (get_or t.forward i nan)))
+    → ((i : ℕ) → T (fits binary32 (get_or t.reverse i nan)))
+    → rows ≤ length keys₀
+    → length keys₁ ≡ length keys₀
+    → take rows keys₁ ≡ map side_key (seen_sides t)
+    → Packs bins t slots labels keys₀ spare₀ q₀ rows keys₁
+packs bins labels keys₀ spare₀ q₀ keys₁ a f r h s k =
+    record { ready = a; forward_fit = f; reverse_fit = r; few = h; same = s; front = k }
+
+pub ranks : (settings : Settings) (bins : List Float) (t : Table) (keys spare : List ℕ) {count : ℕ} (keys₁ spare₁ : List ℕ)
+    → count
+    ≡ targets_at_most (one_in 100) (map label_of (sorted keys)) (side_q settings bins (map (key_side t) (sorted keys)))
+    → keys₁ ≡ with_numbers (side_q settings bins (map (key_side t) (sorted keys))) (sorted keys)
+    → length keys₁ ≡ length keys
+    → length spare₁ ≡ length spare
+    → Ranks settings bins t keys spare count keys₁ spare₁
+ranks settings bins t keys spare keys₁ spare₁ c k s r = record { count_is = c; keys_are = k; same_keys = s; same_spare = r }
+
 module _ {bins : List Float} {t : Table} {slots : List ℕ} {labels : List ℤ} {keys₀ spare₀ : List ℕ} {q₀ : List Float}
     {rows : ℕ} {keys₁ : List ℕ}
     (w : Packs bins t slots labels keys₀ spare₀ q₀ rows keys₁) where

@@ -6,7 +6,7 @@ use Prim.Native.Nat.{ℕ, suc, ◌/◌}
 use native.Mathlib.Omega.{arith}
 use lib.Dec.{T}
 use lib.ListN.{length}
-use lib.Ieee.{Float, binary32, fits, is_nan, of_bits, to_bits}
+use lib.Ieee.{Float, binary32, fits, is_nan, of_bits, to_bits, add}
 use lib.Ieee.Fits.{div-fits}
 use lib.Ieee.Bits.{of_bits-to_bits, to_bits-lt}
 use Rattle.folds.specs.Inner.All.{All}
@@ -22,7 +22,7 @@ use Rattle.ranking.proofs.Packed.{upper_of_with, payload_of_with, with_over, bit
 use Rattle.ranking.proofs.Ranks.{AllF32}
 use Rattle.fdr.specs.declared.Settings.{Settings}
 use Rattle.fdr.specs.Sides.{Side}
-use Rattle.fdr.specs.SideQValues.{ratios_from}
+use Rattle.fdr.specs.SideQValues.{error_of, ratios_from}
 use Rattle.fdr.specs.Inner.Passes.{with_numbers, key_number, NumberBits, HoldsNumber}
 
 -- ---- f32 numbers: no NaN, and of the format
@@ -42,13 +42,13 @@ module _ (settings : Settings) (bins : List Float) where
   pub ratios_fit : (sum : Float) (targets : ℕ) (sides : List Side) → AllF32 (ratios_from settings bins sum targets sides)
   unfolding ratios_from
   ratios_fit sum targets [] = tt
-  ratios_fit sum targets (s ∷ ss) = (div-fits binary32 _ _, ratios_fit _ _ ss)
+  ratios_fit sum targets (s ∷ ss) = (div-fits binary32 _ _, ratios_fit (add binary32 sum (error_of settings bins s.score)) _ ss)
 
   pub length_ratios : (sum : Float) (targets : ℕ) (sides : List Side)
       → length (ratios_from settings bins sum targets sides) ≡ length sides
   unfolding ratios_from
   length_ratios sum targets [] = refl
-  length_ratios sum targets (s ∷ ss) = ap suc (length_ratios _ _ ss)
+  length_ratios sum targets (s ∷ ss) = ap suc (length_ratios (add binary32 sum (error_of settings bins s.score)) _ ss)
 
 pub capped_numbers : (rs : List Float) → AllF32 rs → All F32Number (map (min_number f32_one) rs)
 capped_numbers rs w =

@@ -11,10 +11,10 @@ pub returns-in-Refused : goal.returns-in-Refused
 unfolding assign_q_value
 returns-in-Refused c =
     let w = c.blank.ensures in
-    rw (w.0, w.1.0, w.1.1, ← c.ask.ensures, c.in-Refused.is)
+    rw (w.keys, w.spare, w.q, ← c.ask.ensures, c.in-Refused.is)
 
 pub returns-in-Accepted : goal.returns-in-Accepted
 unfolding assign_q_value
 returns-in-Accepted c =
     let w = c.assigned.ensures in
-    rw (w.0, w.1.0, w.1.1.0, w.1.1.1, ← c.ask.ensures, c.in-Accepted.is)
+    rw (w.count, w.column, w.keys, w.spare, ← c.ask.ensures, c.in-Accepted.is)

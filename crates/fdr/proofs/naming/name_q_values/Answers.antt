@@ -7,22 +7,21 @@ use Rattle.fdr.specs.Inner.Passes.{written_at_names}
 use Rattle.fdr.proofs.NameColumn.{naming_start, naming_step, naming_in_bounds, naming_done}
 use borrow.Author.Rules.{rules}
 use Rattle.fdr.proofs.naming.name_q_values.Goals as goal
-use Rattle.fdr.proofs.naming.name_q_values.Goals.{After-name_of-name}
-
-in_bounds : (c : After-name_of-name)
-    → c.name_of-name.result < length c.loop-i.column
-in_bounds c =
-    naming_in_bounds _ _ _ c.loop-i.invariant (search rules) c.place_of.ensures c.decoy_bit.ensures _ c.name_of-name.ensures _
-    c.fill_u64.auto.column c.requires
 
 pub loop-i-init : goal.loop-i-init
 loop-i-init c = naming_start _ _ _
 
 pub offset_bounds-column-name : goal.offset_bounds-column-name
-offset_bounds-column-name c = let h = in_bounds c.before in search rules
+offset_bounds-column-name c =
+    let h : c.name_of-name.result < length c.loop-i.column =
+    naming_in_bounds _ _ _ c.loop-i.invariant (search rules) c.place_of.ensures c.decoy_bit.ensures _ c.name_of-name.ensures _
+    c.fill_u64.auto.column c.requires in
+    search rules
 
 pub bounds-column-name : goal.bounds-column-name
-bounds-column-name c = in_bounds c.before
+bounds-column-name c =
+    naming_in_bounds _ _ _ c.loop-i.invariant (search rules) c.place_of.ensures c.decoy_bit.ensures _ c.name_of-name.ensures _
+    c.fill_u64.auto.column c.requires
 
 pub loop-i-preserved : goal.loop-i-preserved
 loop-i-preserved c =
