@@ -56,7 +56,7 @@ fn ask(
 // The labels in ranked order, and how many rows have a q-value of at most 0.05.
 fn read_ranked(labels: &[i32], q: &[f32], order: &[u32], ranked: &mut [i32]) -> usize
     requires q_len { (length q.now ≡ length labels.now) × (length ranked.old ≡ length order.now) }
-    requires all { All (λ row. row < length labels.now) order.now }
+    requires order_in_bounds { All (λ row. row < length labels.now) order.now }
     ensures count { result ≡ count_at_most (one_in 20) (map (λ row. get_or q.now row nan) order.now) }
     ensures column { ranked.new ≡ map (λ row. get_or labels.now row (pos 0)) order.now }
 {

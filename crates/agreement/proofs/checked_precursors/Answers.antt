@@ -13,7 +13,7 @@ pub returns-in-Refused : goal.returns-in-Refused
 unfolding checked_precursors
 returns-in-Refused c =
     let blank = c.blank.ensures in
-    rw (blank.0, blank.1.0, blank.1.1, c.fill_i32.ensures, c.fill_u32.ensures)
+    rw (blank.keys, blank.spare, blank.q, c.fill_i32.ensures, c.fill_u32.ensures)
     (sym (if_refused _ _ (sym c.ask.ensures ∙ c.in-Refused.is)))
 
 pub returns-in-Accepted : goal.returns-in-Accepted

@@ -10,7 +10,7 @@ read_ranked-line-requires c =
     let order = order_is p.labels.now p.scores.now p.keys.now p.spare.now p.ranked.now p.order.now p.q.now c.requires _ _ _ _ _ _
     picked.1 picked.2 c.precursor_order.ensures in
     let w = reads p.labels.now p.scores.now p.keys.now p.spare.now p.ranked.now p.order.now p.q.now c.requires _ _ picked.0 order.0 in
-    record { q_len = w.0; all = w.1 }
+    record { q_len = w.0; order_in_bounds = w.1 }
 
 pub returns : goal.returns
 returns c =

@@ -10,32 +10,43 @@ use Rattle.folds.proofs.Writing.{all_at}
 use Rattle.folds.proofs.Folds.{counting_fits}
 use Rattle.agreement.proofs.Reading.{reading_start, reading_step, reading_labels, reading_count}
 use Rattle.agreement.proofs.read_ranked.Goals as goal
-use Rattle.agreement.proofs.read_ranked.Goals.{In-loop-i}
-
--- the row at this turn is in the list
-inside : (c : In-loop-i)
-    → (let s = c.args in get_or s.order.now c.loop-i.i 0 < length s.labels.now)
-inside c =
-    all_at (λ row. row < length c.args.labels.now) 0 c.args.order.now c.requires.all c.loop-i.i c.loop-i-test.true
 
 pub loop-i-init : goal.loop-i-init
 loop-i-init c = reading_start (one_in 20) _ _ _ _ c.requires.q_len.1
 
 pub overflow_cast-row : goal.overflow_cast-row
-overflow_cast-row c = let below = inside c.before in search rules
+overflow_cast-row c =
+    let below : get_or c.args.order.now c.loop-i.i 0 < length c.args.labels.now =
+    all_at (λ row. row < length c.args.labels.now) 0 c.args.order.now c.requires.order_in_bounds c.loop-i.i
+    c.loop-i-test.true in
+    search rules
 
 pub offset_bounds-labels-row : goal.offset_bounds-labels-row
-offset_bounds-labels-row c = let below = inside c.before in search rules
+offset_bounds-labels-row c =
+    let below : get_or c.args.order.now c.loop-i.i 0 < length c.args.labels.now =
+    all_at (λ row. row < length c.args.labels.now) 0 c.args.order.now c.requires.order_in_bounds c.loop-i.i
+    c.loop-i-test.true in
+    search rules
 
 pub bounds-labels-row : goal.bounds-labels-row
-bounds-labels-row c = let below = inside c.before in search rules
+bounds-labels-row c =
+    let below : get_or c.args.order.now c.loop-i.i 0 < length c.args.labels.now =
+    all_at (λ row. row < length c.args.labels.now) 0 c.args.order.now c.requires.order_in_bounds c.loop-i.i
+    c.loop-i-test.true in
+    search rules
 
 pub offset_bounds-q-row : goal.offset_bounds-q-row
-offset_bounds-q-row c = let below = inside c.before.before in search rules
+offset_bounds-q-row c =
+    let below : get_or c.args.order.now c.loop-i.i 0 < length c.args.labels.now =
+    all_at (λ row. row < length c.args.labels.now) 0 c.args.order.now c.requires.order_in_bounds c.loop-i.i
+    c.loop-i-test.true in
+    search rules
 
 pub bounds-q-row : goal.bounds-q-row
 bounds-q-row c =
-    let below = inside c.before.before.before in
+    let below : get_or c.args.order.now c.loop-i.i 0 < length c.args.labels.now =
+    all_at (λ row. row < length c.args.labels.now) 0 c.args.order.now c.requires.order_in_bounds c.loop-i.i
+    c.loop-i-test.true in
     let long = c.requires.q_len.0 in
     search rules
 
@@ -52,4 +63,7 @@ loop-i-preserved c =
     (ap (le (get_or a.q.now (get_or a.order.now c.loop-i.i 0) nan)) (sym one_in_20))
 
 pub returns : goal.returns
-returns c = record { count = reading_count (one_in 20) _ _ _ c.loop-i.invariant c.loop-i-test.false; column = reading_labels (one_in 20) _ _ _ c.loop-i.invariant c.loop-i-test.false }
+returns c = record {
+  count = reading_count (one_in 20) _ _ _ c.loop-i.invariant c.loop-i-test.false;
+  column = reading_labels (one_in 20) _ _ _ c.loop-i.invariant c.loop-i-test.false;
+}
