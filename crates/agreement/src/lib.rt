@@ -85,8 +85,7 @@ fn make_and_check(
         (length ranked.old) (length order.old) (length q.old) }
     ensures { let after = checked_run result keys.new spare.new ranked.new order.new in
         let run = checked_precursors labels.now scores.now keys.old in
-        after q.new
-        ≡ run spare.old ranked.old order.old q.old }
+        after q.new ≡ run spare.old ranked.old order.old q.old }
 {
     precursor::picked_precursor(labels, scores, keys, spare, q);
     precursor::precursor_order(scores, keys, spare, order);
@@ -110,8 +109,7 @@ pub fn checked_precursors(
 ) -> Line
     ensures { let after = checked_run result keys.new spare.new ranked.new order.new in
         let run = checked_precursors labels.now scores.now keys.old in
-        after q.new
-        ≡ run spare.old ranked.old order.old q.old }
+        after q.new ≡ run spare.old ranked.old order.old q.old }
 {
     match ask(
         labels.len(),

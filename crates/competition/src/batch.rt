@@ -53,8 +53,7 @@ pub fn ask_batch(
     reverse_seen: &[u32],
 ) -> Outcome
     ensures { let batch = batch_of slots.now labels.now scores.now in
-        let table = table_of forward.now reverse.now
-        forward_seen.now reverse_seen.now in
+        let table = table_of forward.now reverse.now forward_seen.now reverse_seen.now in
         result ≡ batch_asked batch table }
 {
     if !(batch_short(slots, labels, scores)
@@ -84,10 +83,8 @@ fn add_row(
     reverse_seen: &mut [u32],
 )
     requires { RowReady slot (table_of forward.old reverse.old forward_seen.old reverse_seen.old) }
-    ensures { let before = table_of forward.old reverse.old
-        forward_seen.old reverse_seen.old in
-        let after = table_of forward.new reverse.new
-        forward_seen.new reverse_seen.new in
+    ensures { let before = table_of forward.old reverse.old forward_seen.old reverse_seen.old in
+        let after = table_of forward.new reverse.new forward_seen.new reverse_seen.new in
         after ≡ with_row slot label score before }
 {
     if slot == NO_PART {
@@ -119,10 +116,8 @@ fn add_all(
 )
     requires { let batch = batch_of slots.now labels.now scores.now in
         BatchReady batch (table_of forward.old reverse.old forward_seen.old reverse_seen.old) }
-    ensures { let before = table_of forward.old reverse.old
-        forward_seen.old reverse_seen.old in
-        let after = table_of forward.new reverse.new
-        forward_seen.new reverse_seen.new in
+    ensures { let before = table_of forward.old reverse.old forward_seen.old reverse_seen.old in
+        let after = table_of forward.new reverse.new forward_seen.new reverse_seen.new in
         after ≡ added slots.now labels.now scores.now before }
 {
     for i in 0..slots.len() {
@@ -149,10 +144,8 @@ pub fn add_rows(
     reverse_seen: &mut [u32],
 ) -> Outcome
     ensures { let batch = batch_of slots.now labels.now scores.now in
-        let before = table_of forward.old reverse.old
-        forward_seen.old reverse_seen.old in
-        let after = table_of forward.new reverse.new
-        forward_seen.new reverse_seen.new in
+        let before = table_of forward.old reverse.old forward_seen.old reverse_seen.old in
+        let after = table_of forward.new reverse.new forward_seen.new reverse_seen.new in
         table_run result after ≡ add_rows batch before }
 {
     match ask_batch(

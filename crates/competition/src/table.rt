@@ -20,8 +20,7 @@ pub fn table_short(
     forward_seen: &[u32],
     reverse_seen: &[u32],
 ) -> bool
-    ensures { let table = table_of forward.now reverse.now
-        forward_seen.now reverse_seen.now in
+    ensures { let table = table_of forward.now reverse.now forward_seen.now reverse_seen.now in
         result ≡ table_short table }
 {
     (forward.len() <= columns::LONGEST)
@@ -36,8 +35,7 @@ pub fn table_fits(
     forward_seen: &[u32],
     reverse_seen: &[u32],
 ) -> bool
-    ensures { let table = table_of forward.now reverse.now
-        forward_seen.now reverse_seen.now in
+    ensures { let table = table_of forward.now reverse.now forward_seen.now reverse_seen.now in
         result ≡ table_fits table }
 {
     let slots = forward.len();
@@ -51,8 +49,7 @@ fn ask_fresh(
     forward_seen: &[u32],
     reverse_seen: &[u32],
 ) -> Outcome
-    ensures { let table = table_of forward.now reverse.now
-        forward_seen.now reverse_seen.now in
+    ensures { let table = table_of forward.now reverse.now forward_seen.now reverse_seen.now in
         result ≡ fresh_asked table }
 {
     if !table_short(forward, reverse, forward_seen, reverse_seen) {
@@ -71,10 +68,8 @@ pub fn fresh_table(
     forward_seen: &mut [u32],
     reverse_seen: &mut [u32],
 ) -> Outcome
-    ensures { let before = table_of forward.old reverse.old
-        forward_seen.old reverse_seen.old in
-        let after = table_of forward.new reverse.new
-        forward_seen.new reverse_seen.new in
+    ensures { let before = table_of forward.old reverse.old forward_seen.old reverse_seen.old in
+        let after = table_of forward.new reverse.new forward_seen.new reverse_seen.new in
         table_run result after ≡ fresh_table before }
 {
     match ask_fresh(forward, reverse, forward_seen, reverse_seen) {

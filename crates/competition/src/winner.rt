@@ -19,8 +19,7 @@ fn ask_winners(
     scores: usize,
     is_decoy: usize,
 ) -> Outcome
-    ensures { let table = table_of forward.now reverse.now
-        forward_seen.now reverse_seen.now in
+    ensures { let table = table_of forward.now reverse.now forward_seen.now reverse_seen.now in
         result ≡ winners_asked table scores is_decoy }
 {
     if !table_short(forward, reverse, forward_seen, reverse_seen) {
@@ -55,11 +54,9 @@ fn write_winners(
 )
     requires { let table = table_of forward.now reverse.now forward_seen.now reverse_seen.now in
         WinnersReady table (length scores.old) (length is_decoy.old) }
-    ensures scores { let table = table_of forward.now reverse.now
-        forward_seen.now reverse_seen.now in
+    ensures scores { let table = table_of forward.now reverse.now forward_seen.now reverse_seen.now in
         scores.new ≡ tabulated (winner table) 0 (length forward.now) }
-    ensures flags { let table = table_of forward.now reverse.now
-        forward_seen.now reverse_seen.now in
+    ensures flags { let table = table_of forward.now reverse.now forward_seen.now reverse_seen.now in
         is_decoy.new ≡ tabulated (decoy_flag table) 0 (length forward.now) }
 {
     for slot in 0..forward.len() {
@@ -86,10 +83,8 @@ pub fn winners(
     scores: &mut [f32],
     is_decoy: &mut [u32],
 ) -> Outcome
-    ensures { let table = table_of forward.now reverse.now
-        forward_seen.now reverse_seen.now in
-        winners_run result scores.new is_decoy.new
-        ≡ winners table scores.old is_decoy.old }
+    ensures { let table = table_of forward.now reverse.now forward_seen.now reverse_seen.now in
+        winners_run result scores.new is_decoy.new ≡ winners table scores.old is_decoy.old }
 {
     match ask_winners(
         forward,

@@ -47,8 +47,7 @@ fn ask(
     spare: usize,
     q: usize,
 ) -> Outcome
-    ensures { let table = table_of forward.now reverse.now
-        forward_seen.now reverse_seen.now in
+    ensures { let table = table_of forward.now reverse.now forward_seen.now reverse_seen.now in
         result ≡ assign_asked table bins slots.now labels keys spare q }
 {
     let rows = slots.len();
@@ -88,11 +87,9 @@ fn assigned(
     requires { let table = table_of forward.now reverse.now forward_seen.now reverse_seen.now in
         AssignReady table (length bins.now) slots.now (length labels.now)
         (length keys.old) (length spare.old) (length q.old) }
-    ensures count { let table = table_of forward.now reverse.now
-        forward_seen.now reverse_seen.now in
+    ensures count { let table = table_of forward.now reverse.now forward_seen.now reverse_seen.now in
         result ≡ passing settings bins.now table }
-    ensures column { let table = table_of forward.now reverse.now
-        forward_seen.now reverse_seen.now in
+    ensures column { let table = table_of forward.now reverse.now forward_seen.now reverse_seen.now in
         q.new ≡ rows_q settings bins.now table slots.now labels.now }
     ensures keys { keys.new ≡ filled 0 keys.old }
     ensures spare { spare.new ≡ filled 0 spare.old }
@@ -128,11 +125,9 @@ pub fn assign_q_value(
     spare: &mut [u64],
     q: &mut [f32],
 ) -> Counted
-    ensures { let table = table_of forward.now reverse.now
-        forward_seen.now reverse_seen.now in
+    ensures { let table = table_of forward.now reverse.now forward_seen.now reverse_seen.now in
         ranked_run result keys.new spare.new q.new
-        ≡ assign_q_value settings bins.now table slots.now labels.now
-        keys.old spare.old q.old }
+        ≡ assign_q_value settings bins.now table slots.now labels.now keys.old spare.old q.old }
 {
     match ask(
         bins.len(),

@@ -52,7 +52,7 @@ fn row_q(names: Names, column: &[u64], slot: u32, label: i32) -> f32
 pub fn write_rows(names: Names, column: &[u64], slots: &[u32], labels: &[i32], q: &mut [f32])
     requires bits { All NumberBits column.now }
     requires slots_in_bounds { All (λ s. eqb s no_part ≡ false → NamesInBounds (length column.now) s) slots.now }
-    requires labels_len { (length labels.now ≡ length slots.now) × (length q.old ≡ length slots.now) }
+    requires lengths { (length labels.now ≡ length slots.now) × (length q.old ≡ length slots.now) }
     ensures { let slots = slots.now in
         let labels = labels.now in
         let read = read_at_name names column.now in

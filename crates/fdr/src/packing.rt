@@ -26,8 +26,7 @@ pub fn pack(
     requires { let table = table_of forward.now reverse.now forward_seen.now reverse_seen.now in
         PackReady table (length keys.old) }
     ensures few { result ≤ length keys.old }
-    ensures keys { let table = table_of forward.now reverse.now
-        forward_seen.now reverse_seen.now in
+    ensures keys { let table = table_of forward.now reverse.now forward_seen.now reverse_seen.now in
         take result keys.new ≡ map side_key (seen_sides table) }
 {
     let mut rows: usize = 0;

@@ -54,7 +54,7 @@ pub fn posterior_error(estimator: Estimator, bins: &[f64], score: f64) -> Poster
 }
 
 fn write_errors(estimator: Estimator, bins: &[f64], scores: &[f64], errors: &mut [f64])
-    requires in_bounds { (1 ≤ length bins.now) × (length bins.now ≤ 65536) }
+    requires bins_in_bounds { (1 ≤ length bins.now) × (length bins.now ≤ 65536) }
     requires errors_len { length errors.old ≡ length scores.now }
     ensures { errors.new ≡ map (posterior_error estimator bins.now) scores.now }
 {

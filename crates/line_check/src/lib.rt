@@ -108,7 +108,7 @@ fn last_later(labels: &[i32], own: Counts, per: usize) -> Counts
     requires labels_len_bound { length labels.now ≤ longest }
     requires per_bound { per ≤ 100 }
     requires row_in_bounds { own.row ≤ length labels.now }
-    requires own_value { own ≡ counts_at labels.now own.row }
+    requires own_counts { own ≡ counts_at labels.now own.row }
     ensures { let l = labels.now in
         result ≡ counts_at l (max own.row (right_line per l)) }
 {

@@ -53,8 +53,9 @@ fn blank_model(refusal: Refusal) -> Model
 
 // The fit of a list that has both classes: the means, the scatter within the classes, and the system's solution.
 fn fit(features: &[f64], labels: &[i32], decoys: usize, targets: usize) -> Model
-    requires decoys_le_longest { (decoys ≤ longest) × (targets ≤ longest) × (length features.now ≡ 20 * length labels.now) }
-    requires decoys_value { (decoys ≡ class_count labels.now 0) × (targets ≡ class_count labels.now 1) }
+    requires lengths { (decoys ≤ longest) × (targets ≤ longest) ×
+        (length features.now ≡ 20 * length labels.now) }
+    requires counts { (decoys ≡ class_count labels.now 0) × (targets ≡ class_count labels.now 1) }
     ensures { let left = left_side features.now labels.now in
         let right = right_side features.now labels.now in
         result ≡ model_of (solution left right 20) }

@@ -5,8 +5,8 @@ ghost use Rattle.ranking.specs.Inner.Rows.{row_keys};
 
 // Each row's key: its narrowed score, its place, and whether it is a decoy.
 pub fn pack(labels: &[i32], scores: &[f64], keys: &mut [u64])
-    requires labels_len { (length labels.now ≡ length scores.now) × (length keys.old ≡ length scores.now) }
-    requires scores_len_bound { length scores.now ≤ longest }
+    requires lengths { (length labels.now ≡ length scores.now) × (length keys.old ≡ length scores.now) }
+    requires short { length scores.now ≤ longest }
     ensures { keys.new ≡ row_keys labels.now scores.now }
 {
     let mut i: usize = 0;

@@ -18,10 +18,8 @@ pub extern "C" fn vayemuku_fresh_table(
     forward_seen: &mut [u32],
     reverse_seen: &mut [u32],
 ) -> u32
-    ensures { let initial = table_of forward.old reverse.old
-        forward_seen.old reverse_seen.old in
-        let after = table_of forward.new reverse.new
-        forward_seen.new reverse_seen.new in
+    ensures { let initial = table_of forward.old reverse.old forward_seen.old reverse_seen.old in
+        let after = table_of forward.new reverse.new forward_seen.new reverse_seen.new in
         let run = fresh_table initial in
         result and after ≡ outcome_number run.answer and run.table }
 {
@@ -40,10 +38,8 @@ pub extern "C" fn vayemuku_add_rows(
     reverse_seen: &mut [u32],
 ) -> u32
     ensures { let batch = batch_of slots.now labels.now scores.now in
-        let before = table_of forward.old reverse.old
-        forward_seen.old reverse_seen.old in
-        let after = table_of forward.new reverse.new
-        forward_seen.new reverse_seen.new in
+        let before = table_of forward.old reverse.old forward_seen.old reverse_seen.old in
+        let after = table_of forward.new reverse.new forward_seen.new reverse_seen.new in
         let run = add_rows batch before in
         result and after ≡ outcome_number run.answer and run.table }
 {
@@ -68,8 +64,7 @@ pub extern "C" fn vayemuku_winners(
     scores: &mut [f32],
     is_decoy: &mut [u32],
 ) -> u32
-    ensures { let table = table_of forward.now reverse.now
-        forward_seen.now reverse_seen.now in
+    ensures { let table = table_of forward.now reverse.now forward_seen.now reverse_seen.now in
         let run = winners table scores.old is_decoy.old in
         result and scores.new and is_decoy.new
         ≡ outcome_number run.answer and run.scores and run.flags }
@@ -113,10 +108,8 @@ pub extern "C" fn vayemuku_assign_q_value(
     count: &mut usize,
 ) -> u32
     ensures { let settings = settings_of two_names min_score score_step in
-        let table = table_of forward.now reverse.now
-        forward_seen.now reverse_seen.now in
-        let run = assign_q_value settings bins.now table slots.now labels.now
-        keys.old spare.old q.old in
+        let table = table_of forward.now reverse.now forward_seen.now reverse_seen.now in
+        let run = assign_q_value settings bins.now table slots.now labels.now keys.old spare.old q.old in
         result and keys.new and spare.new and q.new and count.new
         ≡ counted_number run.answer and run.keys and run.spare and run.q and counted_count run.answer }
 {

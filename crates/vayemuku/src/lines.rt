@@ -63,8 +63,7 @@ pub extern "C" fn vayemuku_checked_spectra(
 ) -> u32
     ensures { let run = spectrum_q_value labels.now q.old in
         let answer = numbers_of (right_at labels.now run.answer) in
-        result and q.new
-        and right.new and row.new and decoys_plus_one.new and targets.new
+        result and q.new and right.new and row.new and decoys_plus_one.new and targets.new
         ≡ answer.number and run.q
         and answer.right and answer.row and answer.decoys_plus_one and answer.targets }
 {
@@ -91,8 +90,7 @@ pub extern "C" fn vayemuku_checked_precursors(
     decoys_plus_one: &mut usize,
     targets: &mut usize,
 ) -> u32
-    ensures { let run = checked_precursors labels.now scores.now keys.old
-        spare.old ranked.old order.old q.old in
+    ensures { let run = checked_precursors labels.now scores.now keys.old spare.old ranked.old order.old q.old in
         let answer = numbers_of run.answer in
         result and keys.new and spare.new and ranked.new and order.new and q.new
         and right.new and row.new and decoys_plus_one.new and targets.new

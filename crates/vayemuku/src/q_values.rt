@@ -27,8 +27,7 @@ pub extern "C" fn vayemuku_picked_precursor(
     q: &mut [f32],
     count: &mut usize,
 ) -> u32
-    ensures { let run = picked_precursor labels.now scores.now
-        keys.old spare.old q.old in
+    ensures { let run = picked_precursor labels.now scores.now keys.old spare.old q.old in
         result and keys.new and spare.new and q.new and count.new
         ≡ counted_number run.answer and run.keys and run.spare and run.q and counted_count run.answer }
 {
@@ -56,8 +55,7 @@ pub extern "C" fn vayemuku_precursor_order(
 #[unsafe(no_mangle)]
 pub extern "C" fn vayemuku_rank_keys(keys: &mut [u64], spare: &mut [u64]) -> u32
     ensures { let run = rank_keys keys.old spare.old in
-        result and keys.new and spare.new
-        ≡ outcome_number run.answer and run.keys and run.spare }
+        result and keys.new and spare.new ≡ outcome_number run.answer and run.keys and run.spare }
 {
     columns::outcome_number(ranking::rank_keys(keys, spare))
 }

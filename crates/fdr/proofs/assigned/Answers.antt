@@ -60,7 +60,7 @@ write_rows-requires c =
     c.rank-passing.new.spare c.rank-passing.ensures.count c.rank-passing.ensures.keys c.rank-passing.auto.keys
     c.rank-passing.auto.spare in
     let asks = rows_ask w r _ c.name_q_values.ensures in
-    record { bits = asks.0; slots_in_bounds = asks.1.0; labels_len = asks.1.1 }
+    record { bits = asks.0; slots_in_bounds = asks.1.0; lengths = asks.1.1 }
 
 pub returns : goal.returns
 returns c =

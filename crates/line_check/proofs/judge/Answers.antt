@@ -8,7 +8,7 @@ use Rattle.line_check.proofs.judge.Goals as goal
 pub last_later-last-requires : goal.last_later-last-requires
 last_later-last-requires c =
     let w = own_row _ _ c.requires.line_in_bounds c.count_to-own.ensures in
-    record { labels_len_bound = search rules; per_bound = search rules; row_in_bounds = w.0; own_value = w.1 }
+    record { labels_len_bound = search rules; per_bound = search rules; row_in_bounds = w.0; own_counts = w.1 }
 
 pub returns-then-line-last : goal.returns-then-line-last
 returns-then-line-last c =

@@ -7,7 +7,7 @@ use Rattle.line_check.proofs.Later.{tally_of, later_start, later_passed, later_f
 use Rattle.line_check.proofs.last_later.Goals as goal
 
 pub loop-i-init : goal.loop-i-init
-loop-i-init c = later_start c.args.per (tally_of c.args.labels.now c.args.own c.requires.row_in_bounds c.requires.own_value)
+loop-i-init c = later_start c.args.per (tally_of c.args.labels.now c.args.own c.requires.row_in_bounds c.requires.own_counts)
 
 pub overflow_add-decoys : goal.overflow_add-decoys
 overflow_add-decoys c = omega (arith, next_decoy c.loop-i.invariant.so_far (search rules))

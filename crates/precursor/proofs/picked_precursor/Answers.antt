@@ -10,7 +10,7 @@ use Rattle.precursor.proofs.Joined.{assign_asks, picked}
 use Rattle.precursor.proofs.picked_precursor.Goals as goal
 
 pub pack-requires : goal.pack-requires
-pack-requires c = let m = precursor_lengths _ _ _ _ _ (sym c.ask.ensures ∙ c.in-Accepted.is) in record { labels_len = (m.0, m.1.keys_match); scores_len_bound = m.1.short }
+pack-requires c = let m = precursor_lengths _ _ _ _ _ (sym c.ask.ensures ∙ c.in-Accepted.is) in record { lengths = (m.0, m.1.keys_match); short = m.1.short }
 
 pub sort-requires : goal.sort-requires
 sort-requires c =

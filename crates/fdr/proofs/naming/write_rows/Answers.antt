@@ -14,7 +14,7 @@ use borrow.Author.Rules.{rules}
 use Rattle.fdr.proofs.naming.write_rows.Goals as goal
 
 pub loop-i-init : goal.loop-i-init
-loop-i-init c = writing_start c.requires.labels_len.1
+loop-i-init c = writing_start c.requires.lengths.1
 
 pub row_q-requires : goal.row_q-requires
 row_q-requires c =

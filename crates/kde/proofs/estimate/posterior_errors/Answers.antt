@@ -9,7 +9,7 @@ use Rattle.kde.proofs.estimate.posterior_errors.Goals as goal
 pub write_errors-requires : goal.write_errors-requires
 write_errors-requires c =
     let w = errors_passed _ _ _ (sym c.ask_errors.ensures ∙ c.in-Accepted.is) in
-    record { in_bounds = w.0; errors_len = w.1 }
+    record { bins_in_bounds = w.0; errors_len = w.1 }
 
 pub returns-in-Refused : goal.returns-in-Refused
 unfolding posterior_errors of_bits div

@@ -17,5 +17,5 @@ int_to_float-targets c = le→leb c.args.targets (2 ^ 53) (search rules)
 
 pub returns : goal.returns
 returns c =
-    fitted c.args.features.now c.args.labels.now c.requires.decoys_value.0 c.requires.decoys_value.1 c.class_sums-sums.ensures c.mean_of-decoy.ensures c.mean_of-target.ensures
+    fitted c.args.features.now c.args.labels.now c.requires.counts.0 c.requires.counts.1 c.class_sums-sums.ensures c.mean_of-decoy.ensures c.mean_of-target.ensures
     c.class_scatters-tables.ensures c.scatter_within-left.ensures c.subtract_rows-right.ensures c.solve.ensures c.model_of.ensures

@@ -14,7 +14,7 @@ pub fit-requires : goal.fit-requires
 fit-requires c =
     let a = c.args in
     let w = counts_fit (length a.features.now) a.labels.now c.count_decoys-decoys.ensures (sym c.ask.ensures ∙ c.in-Accepted.is) in
-    record { decoys_le_longest = w.0; decoys_value = w.1 }
+    record { lengths = w.0; counts = w.1 }
 
 pub returns-in-Refused : goal.returns-in-Refused
 unfolding trained
