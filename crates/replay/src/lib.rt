@@ -6,8 +6,16 @@
 ghost use Rattle.std.specs.Prelude.{◌<◌};
 
 use columns::Counted;
+use std::io::Read;
+use std::rt::Files;
+use std::{fs, io};
 
-const OUT: i32 = 1;
+// The bytes of a recording, and how many of them are read.
+#[derive(Drop)]
+pub struct Recording {
+    bytes: Vec<u8>,
+    position: usize,
+}
 
 // No recording has more cases.
 const MOST_CASES: u64 = 1_000_000;
@@ -38,23 +46,37 @@ fn joined(bytes: &[u8; 4]) -> u32 {
         + 0x100_0000 * wide(bytes[3])
 }
 
+// The next byte.
+fn read_u8(recording: &mut Recording) -> u8 {
+    if recording.position >= recording.bytes.len() {
+        return 0;
+    }
+    let byte = recording.bytes[recording.position];
+    recording.position += 1;
+    byte
+}
+
 // The next whole number of four bytes.
-pub fn read_u32(fd: i32) -> u32 {
-    let mut bytes = [0u8; 4];
-    io::read_full(fd, &mut bytes);
+pub fn read_u32(recording: &mut Recording) -> u32 {
+    let bytes = [
+        read_u8(recording),
+        read_u8(recording),
+        read_u8(recording),
+        read_u8(recording),
+    ];
     joined(&bytes)
 }
 
 // The next whole number of eight bytes.
-pub fn read_u64(fd: i32) -> u64 {
-    let low = read_u32(fd);
-    let high = read_u32(fd);
+pub fn read_u64(recording: &mut Recording) -> u64 {
+    let low = read_u32(recording);
+    let high = read_u32(recording);
     wider(low) + 0x1_0000_0000 * wider(high)
 }
 
 // The next length.
-pub fn read_length(fd: i32) -> usize {
-    read_u32(fd) as usize
+pub fn read_length(recording: &mut Recording) -> usize {
+    read_u32(recording) as usize
 }
 
 // The number with these 32 bits.
@@ -82,76 +104,76 @@ fn float_64(bits: u64) -> f64 {
 
 // A float's bits, one pattern for every NaN.
 pub fn bits_32(x: f32) -> u32 {
-    if x != x {
+    if x.is_nan() {
         return NAN_32;
     }
     f32::to_bits(x)
 }
 
 pub fn bits_64(x: f64) -> u64 {
-    if x != x {
+    if x.is_nan() {
         return NAN_64;
     }
     f64::to_bits(x)
 }
 
 // The next float.
-pub fn read_f64(fd: i32) -> f64 {
-    float_64(read_u64(fd))
+pub fn read_f64(recording: &mut Recording) -> f64 {
+    float_64(read_u64(recording))
 }
 
 // Fills a column with the next whole numbers.
-pub fn read_u32s(fd: i32, column: &mut [u32]) {
+pub fn read_u32s(recording: &mut Recording, column: &mut [u32]) {
     for i in 0..column.len() {
-        column[i] = read_u32(fd);
+        column[i] = read_u32(recording);
     }
 }
 
 // Fills a column with the next labels.
-pub fn read_i32s(fd: i32, column: &mut [i32]) {
+pub fn read_i32s(recording: &mut Recording, column: &mut [i32]) {
     for i in 0..column.len() {
-        column[i] = signed(read_u32(fd));
+        column[i] = signed(read_u32(recording));
     }
 }
 
 // Fills a column with the next floats.
-pub fn read_f32s(fd: i32, column: &mut [f32]) {
+pub fn read_f32s(recording: &mut Recording, column: &mut [f32]) {
     for i in 0..column.len() {
-        column[i] = float_32(read_u32(fd));
+        column[i] = float_32(read_u32(recording));
     }
 }
 
-pub fn read_f64s(fd: i32, column: &mut [f64]) {
+pub fn read_f64s(recording: &mut Recording, column: &mut [f64]) {
     for i in 0..column.len() {
-        column[i] = read_f64(fd);
+        column[i] = read_f64(recording);
     }
 }
 
 // Fills the first `n` places of a column with the next floats; none where it has fewer.
-pub fn read_first(fd: i32, n: usize, column: &mut [f64]) {
+pub fn read_first(recording: &mut Recording, n: usize, column: &mut [f64]) {
     if n <= column.len() {
-        read_f64s(fd, &mut column[..n]);
+        read_f64s(recording, &mut column[..n]);
     }
 }
 
 // Whether the next float is this one.
-pub fn same_f64(fd: i32, x: f64) -> bool {
-    bits_64(x) == read_u64(fd)
+pub fn same_f64(recording: &mut Recording, x: f64) -> bool {
+    bits_64(x) == read_u64(recording)
 }
 
 // Whether the next floats are those of a column. All of them are read.
-pub fn same_f64s(fd: i32, column: &[f64]) -> bool {
+pub fn same_f64s(recording: &mut Recording, column: &[f64]) -> bool {
     let mut same = true;
     for i in 0..column.len() {
-        same = same & same_f64(fd, column[i]);
+        same = same & same_f64(recording, column[i]);
     }
     same
 }
 
-pub fn same_f32s(fd: i32, column: &[f32]) -> bool {
+pub fn same_f32s(recording: &mut Recording, column: &[f32]) -> bool {
     let mut same = true;
     for i in 0..column.len() {
-        same = same & (bits_32(column[i]) == read_u32(fd));
+        same = same & (bits_32(column[i]) == read_u32(recording));
     }
     same
 }
@@ -187,8 +209,8 @@ pub fn all_nan_32(column: &[f32]) -> bool {
 }
 
 // Whether a call accepted, and the next number is its count.
-pub fn same_count(fd: i32, answer: Counted) -> bool {
-    let recorded = read_length(fd);
+pub fn same_count(recording: &mut Recording, answer: Counted) -> bool {
+    let recorded = read_length(recording);
     let accepted = columns::counted_number(answer) == 0;
     (columns::counted_count(answer) == recorded) & accepted
 }
@@ -203,18 +225,20 @@ pub fn all_cleared(column: &[u64]) -> bool {
 }
 
 // Opens a recording, or says that it is missing: then reading gives zeros.
-pub fn open(file: &[u8]) -> i32 {
-    let fd = os::open_read(file);
-    if fd < 0 {
-        io::write_all(OUT, file);
-        io::write_all(OUT, b": missing\n");
+pub fn open<R: Files + Print + AllocGlobal>(rt: &R, file: &str) -> io::Result<Recording> {
+    let mut bytes = Vec::new(rt.alloc());
+    match fs::open(rt, file) {
+        Ok(mut opened) => {
+            opened.read_to_end(&mut bytes)?;
+        }
+        Err(_) => println!(rt; "{file}: missing")?,
     }
-    fd
+    Ok(Recording { bytes, position: 0 })
 }
 
 // The number of cases of a recording, 0 where it is none.
-pub fn read_cases(fd: i32) -> usize {
-    let cases = read_u64(fd);
+pub fn read_cases(recording: &mut Recording) -> usize {
+    let cases = read_u64(recording);
     if cases > MOST_CASES {
         return 0;
     }
@@ -226,28 +250,26 @@ pub fn counted(differing: u64, same: bool) -> u64 {
     if same {
         return differing;
     }
-    std::num::wrapping_add_u64(differing, 1)
+    differing.wrapping_add(1)
 }
 
 // Prints a line for a recording whose cases are read, and another where it does not end there.
-pub fn finish(fd: i32, file: &[u8], cases: usize, differing: u64) {
-    io::write_all(OUT, file);
-    io::write_all(OUT, b": ");
-    io::print_decimal(OUT, cases as u64);
-    io::write_all(OUT, b" cases, ");
-    io::print_decimal(OUT, differing);
-    io::write_all(OUT, b" mismatches\n");
-    if !ends(fd) {
-        io::write_all(OUT, file);
-        io::write_all(OUT, b": damaged, or of another length\n");
+pub fn finish(
+    rt: &impl Print,
+    mut recording: Recording,
+    file: &str,
+    cases: usize,
+    differing: u64,
+) -> io::Result<()> {
+    println!(rt; "{file}: {cases} cases, {differing} mismatches")?;
+    if !ends(&mut recording) {
+        println!(rt; "{file}: damaged, or of another length")?;
     }
-    libc::close(fd);
+    Ok(())
 }
 
 // Whether the end of a recording comes next, and nothing after it.
-fn ends(fd: i32) -> bool {
-    let mark = read_u64(fd);
-    let mut more = [0u8; 1];
-    let count = io::read_full(fd, &mut more);
-    (mark == END) & (count == 0)
+fn ends(recording: &mut Recording) -> bool {
+    let mark = read_u64(recording);
+    (mark == END) & (recording.position >= recording.bytes.len())
 }

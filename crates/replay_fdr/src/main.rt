@@ -3,6 +3,9 @@
 
 use fdr::{Names, Settings};
 use kde::Estimator;
+use replay::Recording;
+use std::io;
+use std::rt::Files;
 
 fn names_of(number: u32) -> Names {
     if number == 2 {
@@ -36,7 +39,7 @@ fn accepted(
 
 // Whether the q-values and the count are the recorded ones, and the working columns hold 0.
 fn same_q_values(
-    fd: i32,
+    recording: &mut Recording,
     settings: Settings,
     bins: &[f64],
     forward: &[f32],
@@ -62,14 +65,14 @@ fn same_q_values(
         spare,
         q,
     );
-    let same = replay::same_f32s(fd, q);
-    let counted = replay::same_count(fd, answer);
+    let same = replay::same_f32s(recording, q);
+    let counted = replay::same_count(recording, answer);
     same & counted & replay::all_cleared(keys) & replay::all_cleared(spare)
 }
 
 // Hands over the working and result columns.
 fn same_table(
-    fd: i32,
+    recording: &mut Recording,
     settings: Settings,
     bins: &[f64],
     forward: &[f32],
@@ -91,7 +94,7 @@ fn same_table(
     let mut spare = [7u64; 420];
     let mut q = [0.025f32; 240];
     same_q_values(
-        fd,
+        recording,
         settings,
         bins,
         forward,
@@ -108,7 +111,7 @@ fn same_table(
 
 // Fills the table with the rows, and compares its answers with the recorded ones.
 fn same_filled(
-    fd: i32,
+    recording: &mut Recording,
     settings: Settings,
     bins: &[f64],
     slots: &[u32],
@@ -129,7 +132,7 @@ fn same_filled(
         reverse_seen,
     );
     let same = same_table(
-        fd,
+        recording,
         settings,
         bins,
         forward,
@@ -144,7 +147,7 @@ fn same_filled(
 
 // Hands over a table of garbage with a given number of slots.
 fn same_slots(
-    fd: i32,
+    recording: &mut Recording,
     settings: Settings,
     count: usize,
     bins: &[f64],
@@ -160,7 +163,7 @@ fn same_slots(
     let mut forward_seen = [1u32; 210];
     let mut reverse_seen = [1u32; 210];
     same_filled(
-        fd,
+        recording,
         settings,
         bins,
         slots,
@@ -175,7 +178,7 @@ fn same_slots(
 
 // Reads the rows.
 fn same_rows(
-    fd: i32,
+    recording: &mut Recording,
     settings: Settings,
     count: usize,
     bins: &[f64],
@@ -183,16 +186,16 @@ fn same_rows(
     labels: &mut [i32],
     scores: &mut [f32],
 ) -> bool {
-    replay::read_u32s(fd, slots);
-    replay::read_i32s(fd, labels);
-    replay::read_f32s(fd, scores);
-    same_slots(fd, settings, count, bins, slots, labels, scores)
+    replay::read_u32s(recording, slots);
+    replay::read_i32s(recording, labels);
+    replay::read_f32s(recording, scores);
+    same_slots(recording, settings, count, bins, slots, labels, scores)
 }
 
 // Hands over the rows' columns.
-fn same_list(fd: i32, settings: Settings, bins: &[f64]) -> bool {
-    let count = replay::read_length(fd);
-    let rows = replay::read_length(fd);
+fn same_list(recording: &mut Recording, settings: Settings, bins: &[f64]) -> bool {
+    let count = replay::read_length(recording);
+    let rows = replay::read_length(recording);
     if rows > 240 {
         return false;
     }
@@ -200,7 +203,7 @@ fn same_list(fd: i32, settings: Settings, bins: &[f64]) -> bool {
     let mut labels = [0i32; 240];
     let mut scores = [0.0f32; 240];
     same_rows(
-        fd,
+        recording,
         settings,
         count,
         bins,
@@ -211,10 +214,10 @@ fn same_list(fd: i32, settings: Settings, bins: &[f64]) -> bool {
 }
 
 // Reads the bins, least score and step.
-fn same_estimated(fd: i32, names: Names, bins: &mut [f64]) -> bool {
-    replay::read_f64s(fd, bins);
-    let least = replay::read_f64(fd);
-    let step = replay::read_f64(fd);
+fn same_estimated(recording: &mut Recording, names: Names, bins: &mut [f64]) -> bool {
+    replay::read_f64s(recording, bins);
+    let least = replay::read_f64(recording);
+    let step = replay::read_f64(recording);
     let estimator = Estimator {
         min_score: least,
         score_step: step,
@@ -223,39 +226,39 @@ fn same_estimated(fd: i32, names: Names, bins: &mut [f64]) -> bool {
         names: names,
         estimator: estimator,
     };
-    same_list(fd, settings, bins)
+    same_list(recording, settings, bins)
 }
 
-fn same_case(fd: i32) -> bool {
-    let names = names_of(replay::read_u32(fd));
-    let n = replay::read_length(fd);
+fn same_case(recording: &mut Recording) -> bool {
+    let names = names_of(replay::read_u32(recording));
+    let n = replay::read_length(recording);
     if n > 1000 {
         return false;
     }
     let mut bins = [0.0f64; 1000];
-    same_estimated(fd, names, &mut bins[..n])
+    same_estimated(recording, names, &mut bins[..n])
 }
 
 // How many cases differ.
-fn mismatches(fd: i32, cases: usize) -> u64 {
+fn mismatches(recording: &mut Recording, cases: usize) -> u64 {
     let mut differing = 0;
     for case in 0..cases {
-        differing = replay::counted(differing, same_case(fd));
+        differing = replay::counted(differing, same_case(recording));
     }
     differing
 }
 
-fn replayed(file: &[u8]) {
-    let fd = replay::open(file);
-    let cases = replay::read_cases(fd);
-    let differing = mismatches(fd, cases);
-    replay::finish(fd, file, cases, differing);
+fn replayed<R: Files + Print + AllocGlobal>(rt: &R, file: &str) -> io::Result<()> {
+    let mut recording = replay::open(rt, file)?;
+    let cases = replay::read_cases(&mut recording);
+    let differing = mismatches(&mut recording, cases);
+    replay::finish(rt, recording, file, cases, differing)
 }
 
 // Every case with a flipped bit must differ.
-fn main() {
-    replayed(b"picked_protein");
-    replayed(b"picked_protein.flipped");
-    replayed(b"picked_protein_group");
-    replayed(b"picked_protein_group.flipped");
+fn main(rt: HostRuntime) -> io::Result<()> {
+    replayed(&rt, "picked_protein")?;
+    replayed(&rt, "picked_protein.flipped")?;
+    replayed(&rt, "picked_protein_group")?;
+    replayed(&rt, "picked_protein_group.flipped")
 }

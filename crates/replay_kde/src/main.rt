@@ -2,6 +2,9 @@
 #![tactic(auto)]
 
 use kde::{Builder, Built, Estimator, Posterior};
+use replay::Recording;
+use std::io;
+use std::rt::Files;
 
 // The function whose answers a file has.
 #[derive(Clone, Copy)]
@@ -17,12 +20,17 @@ fn builder_of(monotonic: u32, bins: usize) -> Builder {
 }
 
 // Whether the call accepts, and least score, step and the scores of the bins are the recorded ones.
-fn same_span(fd: i32, builder: Builder, scores: &[f64], bin_scores: &mut [f64]) -> bool {
+fn same_span(
+    recording: &mut Recording,
+    builder: Builder,
+    scores: &[f64],
+    bin_scores: &mut [f64],
+) -> bool {
     match kde::bin_scores(builder, scores, bin_scores) {
         Built::Made(estimator) => {
-            let least = replay::same_f64(fd, estimator.min_score);
-            let step = replay::same_f64(fd, estimator.score_step);
-            let same = replay::same_f64s(fd, bin_scores);
+            let least = replay::same_f64(recording, estimator.min_score);
+            let step = replay::same_f64(recording, estimator.score_step);
+            let same = replay::same_f64s(recording, bin_scores);
             least & step & same
         }
         Built::Refused(refusal) => false,
@@ -31,23 +39,23 @@ fn same_span(fd: i32, builder: Builder, scores: &[f64], bin_scores: &mut [f64]) 
 
 // Whether the call accepts, and the bins from the recorded densities are the recorded ones.
 fn same_bins(
-    fd: i32,
+    recording: &mut Recording,
     builder: Builder,
     labels: &[i32],
     decoy: &mut [f64],
     target: &mut [f64],
     bins: &mut [f64],
 ) -> bool {
-    replay::read_f64s(fd, decoy);
-    replay::read_f64s(fd, target);
+    replay::read_f64s(recording, decoy);
+    replay::read_f64s(recording, target);
     let answer = kde::posterior_bins(builder, labels, decoy, target, bins);
-    let same = replay::same_f64s(fd, bins);
+    let same = replay::same_f64s(recording, bins);
     same & (columns::outcome_number(answer) == 0)
 }
 
 // Whether a build of these rows has the recorded answers.
 fn same_columns(
-    fd: i32,
+    recording: &mut Recording,
     builder: Builder,
     labels: &[i32],
     scores: &[f64],
@@ -56,14 +64,14 @@ fn same_columns(
     target: &mut [f64],
     bins: &mut [f64],
 ) -> bool {
-    let spread = same_span(fd, builder, scores, bin_scores);
-    let mixed = same_bins(fd, builder, labels, decoy, target, bins);
+    let spread = same_span(recording, builder, scores, bin_scores);
+    let mixed = same_bins(recording, builder, labels, decoy, target, bins);
     spread & mixed
 }
 
 // The same with a given number of bins.
 fn same_with(
-    fd: i32,
+    recording: &mut Recording,
     monotonic: u32,
     n: usize,
     labels: &[i32],
@@ -86,7 +94,7 @@ fn same_with(
         return false;
     }
     same_columns(
-        fd,
+        recording,
         builder_of(monotonic, n),
         labels,
         scores,
@@ -98,13 +106,19 @@ fn same_with(
 }
 
 // Hands over columns for up to eight bins.
-fn same_rows(fd: i32, monotonic: u32, n: usize, labels: &[i32], scores: &[f64]) -> bool {
+fn same_rows(
+    recording: &mut Recording,
+    monotonic: u32,
+    n: usize,
+    labels: &[i32],
+    scores: &[f64],
+) -> bool {
     let mut bin_scores = [9.0f64; 8];
     let mut decoy = [9.0f64; 8];
     let mut target = [9.0f64; 8];
     let mut bins = [9.0f64; 8];
     same_with(
-        fd,
+        recording,
         monotonic,
         n,
         labels,
@@ -118,7 +132,7 @@ fn same_rows(fd: i32, monotonic: u32, n: usize, labels: &[i32], scores: &[f64]) 
 
 // Reads the first `rows` labels and scores.
 fn same_list(
-    fd: i32,
+    recording: &mut Recording,
     monotonic: u32,
     n: usize,
     rows: usize,
@@ -131,77 +145,81 @@ fn same_list(
     if rows > scores.len() {
         return false;
     }
-    replay::read_i32s(fd, &mut labels[..rows]);
-    replay::read_f64s(fd, &mut scores[..rows]);
-    same_rows(fd, monotonic, n, &labels[..rows], &scores[..rows])
+    replay::read_i32s(recording, &mut labels[..rows]);
+    replay::read_f64s(recording, &mut scores[..rows]);
+    same_rows(recording, monotonic, n, &labels[..rows], &scores[..rows])
 }
 
-fn same_build(fd: i32) -> bool {
+fn same_build(recording: &mut Recording) -> bool {
     let mut labels = [0i32; 10];
     let mut scores = [0.0f64; 10];
-    let monotonic = replay::read_u32(fd);
-    let n = replay::read_length(fd);
-    let rows = replay::read_length(fd);
-    same_list(fd, monotonic, n, rows, &mut labels, &mut scores)
+    let monotonic = replay::read_u32(recording);
+    let n = replay::read_length(recording);
+    let rows = replay::read_length(recording);
+    same_list(recording, monotonic, n, rows, &mut labels, &mut scores)
 }
 
 // Whether an estimator with these bins gives the recorded error of the recorded score.
-fn same_at(fd: i32, bins: &[f64]) -> bool {
-    let least = replay::read_f64(fd);
-    let step = replay::read_f64(fd);
-    let score = replay::read_f64(fd);
+fn same_at(recording: &mut Recording, bins: &[f64]) -> bool {
+    let least = replay::read_f64(recording);
+    let step = replay::read_f64(recording);
+    let score = replay::read_f64(recording);
     let estimator = Estimator {
         min_score: least,
         score_step: step,
     };
     match kde::posterior_error(estimator, bins, score) {
-        Posterior::Error(error) => replay::same_f64(fd, error),
+        Posterior::Error(error) => replay::same_f64(recording, error),
         Posterior::Refused(refusal) => false,
     }
 }
 
 // Reads the first `n` bins.
-fn same_on(fd: i32, n: usize, bins: &mut [f64]) -> bool {
+fn same_on(recording: &mut Recording, n: usize, bins: &mut [f64]) -> bool {
     if n > bins.len() {
         return false;
     }
-    replay::read_f64s(fd, &mut bins[..n]);
-    same_at(fd, &bins[..n])
+    replay::read_f64s(recording, &mut bins[..n]);
+    same_at(recording, &bins[..n])
 }
 
-fn same_error(fd: i32) -> bool {
+fn same_error(recording: &mut Recording) -> bool {
     let mut bins = [0.0f64; 40];
-    let n = replay::read_length(fd);
-    same_on(fd, n, &mut bins)
+    let n = replay::read_length(recording);
+    same_on(recording, n, &mut bins)
 }
 
-fn same_case(fd: i32, recorded: Recorded) -> bool {
+fn same_case(recording: &mut Recording, recorded: Recorded) -> bool {
     match recorded {
-        Recorded::Build => same_build(fd),
-        Recorded::PosteriorError => same_error(fd),
+        Recorded::Build => same_build(recording),
+        Recorded::PosteriorError => same_error(recording),
     }
 }
 
 // How many cases differ.
-fn mismatches(fd: i32, recorded: Recorded, cases: usize) -> u64 {
+fn mismatches(recording: &mut Recording, recorded: Recorded, cases: usize) -> u64 {
     let mut differing = 0;
     for case in 0..cases {
-        differing = replay::counted(differing, same_case(fd, recorded));
+        differing = replay::counted(differing, same_case(recording, recorded));
     }
     differing
 }
 
-fn replayed(recorded: Recorded, file: &[u8]) {
-    let fd = replay::open(file);
-    let cases = replay::read_cases(fd);
-    let differing = mismatches(fd, recorded, cases);
-    replay::finish(fd, file, cases, differing);
+fn replayed<R: Files + Print + AllocGlobal>(
+    rt: &R,
+    recorded: Recorded,
+    file: &str,
+) -> io::Result<()> {
+    let mut recording = replay::open(rt, file)?;
+    let cases = replay::read_cases(&mut recording);
+    let differing = mismatches(&mut recording, recorded, cases);
+    replay::finish(rt, recording, file, cases, differing)
 }
 
 // Every case with a flipped bit must differ.
-fn main() {
-    replayed(Recorded::Build, b"build");
-    replayed(Recorded::Build, b"build.flipped");
-    replayed(Recorded::PosteriorError, b"posterior_error");
-    replayed(Recorded::PosteriorError, b"posterior_error.flipped");
+fn main(rt: HostRuntime) -> io::Result<()> {
+    replayed(&rt, Recorded::Build, "build")?;
+    replayed(&rt, Recorded::Build, "build.flipped")?;
+    replayed(&rt, Recorded::PosteriorError, "posterior_error")?;
+    replayed(&rt, Recorded::PosteriorError, "posterior_error.flipped")
 }
