@@ -9,13 +9,13 @@ COMPARE := cd compare && cargo run --quiet --release --offline --
 CLIPPY := cargo clippy --quiet --all-targets
 
 # the crates under `vayemuku`
-CRATES := $(shell sed -n 's/^vayemuku: *\([^\#]*\).*/\1/p' crates.txt)
+CRATES := $(shell sed -n 's/^vayemuku staticlib: *\([^\#]*\).*/\1/p' crates.txt)
 
 LIBRARY := target/staticlib/libvayemuku.a
 
-# a sum over all that the library is proved from: the toolchain, and the files of its crates
-SUM = { rt version && cat crates.txt && find $(patsubst %,crates/%,$(CRATES) vayemuku) -type f \
-	! -path '*/must-fail/*' ! -path '*/wrong/*' -print0 | sort -z | xargs -0 sha256sum; } | sha256sum
+# a sum over all that the library is proved from: the toolchain, and its crates' code, definitions and proofs
+SOURCES := $(wildcard $(foreach crate,$(CRATES) vayemuku,$(addprefix crates/$(crate)/,src specs proofs)))
+SUM = { rt version && cat crates.txt && find $(SOURCES) -type f -print0 | sort -z | xargs -0 sha256sum; } | sha256sum
 
 # stops where a command is not on the PATH
 need = @command -v $(1) >/dev/null || { echo "make: $(2) is not on the PATH" >&2; exit 1; }
@@ -29,15 +29,14 @@ test: need-rt need-cargo ## the gate: documents, layout, host's tests, then rt c
 	docs/check
 	$(MAKE) --no-print-directory layout
 	$(MAKE) --no-print-directory host
-	rt ci
+	.ci/prove
 
-lint: layout prepare lib ## layout, line widths and words of all sources, what contracts speak of, and clippy
+lint: layout prepare lib ## line widths and words of all sources, the Rust's layout, what contracts speak of, and clippy
 	cd host && $(CLIPPY) -- -D warnings
 	cd compare && $(CLIPPY) --offline -- -D warnings
 
-# the part of lint that neither builds nor proves anything
-layout: need-rt need-cargo
-	rt fmt --check
+# the part of lint that neither builds nor proves anything; `rt ci` itself refuses Rattle that `rt fmt` lays out otherwise
+layout: need-cargo
 	cd host && cargo fmt --all --check
 	cd compare && cargo fmt --check
 	.ci/lint
@@ -50,8 +49,8 @@ lib: need-rt ## target/staticlib/libvayemuku.a, to link with include/vayemuku.h;
 
 proved-lib:
 	@mkdir -p $(dir $(LIBRARY)) && rm -f $(LIBRARY).sum && $(SUM) >$(LIBRARY).proving
-	rt check $(CRATES)
-	rt staticlib vayemuku
+	cd crates/vayemuku && rt lib
+	@cp crates/vayemuku/out/libvayemuku.a $(LIBRARY)
 	@mv $(LIBRARY).proving $(LIBRARY).sum
 
 host: need-cargo lib ## clippy, tests and documents of host/, and what README.md shows

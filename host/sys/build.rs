@@ -1,5 +1,5 @@
 //! Links libvayemuku.a from target/staticlib, or from the folder that VAYEMUKU_LIB names. Where target/staticlib has
-//! none, `rt staticlib vayemuku` makes it.
+//! none, `make lib` makes it.
 
 use std::path::{Path, PathBuf};
 use std::process::{exit, Command};
@@ -14,8 +14,6 @@ fn main() {
     println!("cargo:rerun-if-changed={}", library(&folder).display());
     println!("cargo:rustc-link-search=native={}", folder.display());
     println!("cargo:rustc-link-lib=static=vayemuku");
-    // for the tests, which look into the library that is linked
-    println!("cargo:rustc-env=VAYEMUKU_LINKED={}", library(&folder).display());
 }
 
 /// The library in a folder.
@@ -38,19 +36,23 @@ fn found_or_made(repository: &Path) -> PathBuf {
         make(repository);
     }
     if !library(&folder).exists() {
-        stop("`rt staticlib vayemuku` ended well, but target/staticlib/libvayemuku.a is missing");
+        stop("`make lib` ended well, but target/staticlib/libvayemuku.a is missing");
     }
     folder
 }
 
 /// Makes the library with the Rattle toolchain.
 fn make(repository: &Path) {
-    match Command::new("rt").args(["staticlib", "vayemuku"]).current_dir(repository).status() {
+    match Command::new("make").args(["--no-print-directory", "lib"]).current_dir(repository).status() {
         Ok(status) if status.success() => {}
-        Ok(status) => stop(&format!("`rt staticlib vayemuku` failed with {status}; run `make lib` to see why")),
+        Ok(status) => stop(&format!(
+            "target/staticlib/libvayemuku.a is missing, and `make lib`, which makes it, failed with {status}: run it \
+             where the Rattle toolchain's command rt is on the PATH, or set VAYEMUKU_LIB to a folder that has \
+             libvayemuku.a"
+        )),
         Err(_) => stop(
-            "target/staticlib/libvayemuku.a is missing, and the Rattle toolchain's command rt, which makes it, is not \
-             on the PATH: run `make lib` where it is, or set VAYEMUKU_LIB to a folder that has libvayemuku.a",
+            "target/staticlib/libvayemuku.a is missing, and make, with which `make lib` makes it, is not on the PATH: \
+             run it where it is, or set VAYEMUKU_LIB to a folder that has libvayemuku.a",
         ),
     }
 }
