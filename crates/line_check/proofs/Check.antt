@@ -15,7 +15,6 @@ use Rattle.columns.specs.declared.Outcome.TheVariants.{Accepted}
 use Rattle.columns.specs.declared.Refusal.TheVariants.{TooLong, PastTheEnd}
 use Rattle.columns.proofs.Questions.{met}
 use Rattle.folds.proofs.Tests.{lt_or_ge}
-use Rattle.counting.specs.Labels.{targets}
 use Rattle.counting.specs.Lines.{qualifies, RightLine, right_line}
 use Rattle.counting.proofs.Lines.{last_own, last_upper, right_line_lem, right_line_only}
 use Rattle.line_check.specs.Check.{per_of, counts_at, judgement, line_asked, line_answer}

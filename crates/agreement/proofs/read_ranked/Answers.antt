@@ -1,6 +1,6 @@
 -- `agreement::read_ranked` meets its contract: the invariant is `Reading`, and each row of the order is in the list.
 use mathlib.Core.Path.{ap, sym}
-use Prim.Native.Nat.{◌-◌, ◌<◌}
+use Prim.Native.Nat.{◌<◌}
 use lib.ListN.{length, get_or}
 use lib.Ieee.{nan, binary32, of_bits, le}
 use borrow.Author.Rules.{rules}

@@ -1,6 +1,5 @@
 -- `columns::fill_f64` meets its contract: the column is written from the front with one value (`Writing`).
 use mathlib.Core.Path.{refl}
-use Prim.Native.Nat.{◌-◌}
 use Rattle.folds.proofs.Writing.{writing_start, writing_next, writing_filled}
 use Rattle.columns.proofs.fill_f64.Goals as goal
 

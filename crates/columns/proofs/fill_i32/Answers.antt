@@ -1,7 +1,6 @@
 -- `columns::fill_i32` meets its contract: the column is written from the front with one value (`Writing`),
 -- which goes through its bits (`to_z-of_z`).
 use mathlib.Core.Path.{refl, ap, ◌∙◌}
-use Prim.Native.Nat.{◌-◌}
 use lib.ListN.{length, replicate}
 use mir.Syntax.{w32}
 use mir.ValLaws.{to_z-of_z}

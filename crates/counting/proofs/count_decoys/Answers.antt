@@ -1,5 +1,4 @@
 -- `counting::count_decoys` meets its contract: the test of each label is added (`Decoys`).
-use Prim.Native.Nat.{◌-◌}
 use borrow.Author.Rules.{rules}
 use Rattle.counting.proofs.Tally.{decoys_start, decoys_step, decoys_fit, decoys_done}
 use Rattle.counting.proofs.count_decoys.Goals as goal

@@ -1,6 +1,5 @@
 -- `gauss::answers` meets its contract. The loop is the walk of `values`, from the row of zeros; the measure is what is
 -- left of the size.
-use Prim.Native.Nat.{◌-◌}
 use Rattle.folds.proofs.Walks.{start, step, done}
 use Rattle.gauss.specs.Solutions.{values}
 use borrow.Author.Rules.{rules}

@@ -1,6 +1,5 @@
 -- `gauss::divide` meets its contract. The loop is the walk of `row_divided` along the row; the measure is what is left
 -- of the size.
-use Prim.Native.Nat.{◌-◌}
 use Rattle.folds.proofs.Walks.{start, step, done}
 use Rattle.gauss.specs.Elimination.{divide_entry, row_divided}
 use mathlib.Core.Path.{ap}

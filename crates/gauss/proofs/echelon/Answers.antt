@@ -1,6 +1,6 @@
 -- `gauss::echelon` meets its contract. The loop is the walk of `echeloned` over the columns, with h and the table for
 -- its state, and h is at most k; the measure is what is left of the size.
-use Prim.Native.Nat.{ℕ, ◌-◌}
+use Prim.Native.Nat.{ℕ}
 use mathlib.Core.Path.{ap}
 use Rattle.folds.proofs.Walks.{start, step_by, done}
 use Rattle.gauss.specs.Elimination.{Matrix, echeloned}

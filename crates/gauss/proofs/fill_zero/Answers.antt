@@ -1,6 +1,5 @@
 -- `gauss::fill_zero` meets its contract. The loop is the walk of `diagonal_filled`; the measure is what is left of the
 -- size.
-use Prim.Native.Nat.{◌-◌}
 use Rattle.folds.proofs.Walks.{start, step, done}
 use Rattle.gauss.specs.Elimination.{diagonal_filled}
 use borrow.Author.Rules.{rules}

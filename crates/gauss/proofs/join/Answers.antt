@@ -1,6 +1,5 @@
 -- `gauss::join` meets its contract. Both loops are walks: over the rows of `joined`, and along a row; the measures are
 -- what is left of the size.
-use Prim.Native.Nat.{◌-◌}
 use mathlib.Core.Path.{ap}
 use lib.ListN.{get_or}
 use lib.Ieee.{nan}

@@ -1,9 +1,7 @@
 -- `gauss::left_solved` meets its contract. The invariants (`Passing`): every row, and every entry of the row, before
 -- this one passes.
 use mathlib.Core.Path.{sym, ◌∙◌}
-use borrow.Author.Tests.{not-true, not-false}
 use Rattle.gauss.specs.Elimination.{entry, solved_at, solved_row, left_solved}
-use Prim.Native.Nat.{◌-◌}
 use lib.Dec.{eqb}
 use Rattle.folds.proofs.Walks.{passing_start, passing_step, passing_done, failing}
 use borrow.Author.Rules.{rules}

@@ -1,6 +1,5 @@
 -- `gauss::reduce` meets its contract. The rows are walked from the last up (`WalkDown`), each along its columns
 -- (`RowWalk`) until the first nonzero entry; the measures are the rows and the columns left.
-use Prim.Native.Nat.{◌-◌}
 use Rattle.folds.proofs.Walks.{walk_down_start, walk_down_done}
 use Rattle.gauss.proofs.RowWalks.{row_walk_start, row_walk_step, none_found, found}
 use Rattle.gauss.specs.Elimination.{divide_row, reduced}

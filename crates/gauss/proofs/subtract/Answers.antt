@@ -1,6 +1,5 @@
 -- `gauss::subtract` meets its contract. The loop is the walk of `row_subtracted` along the row; the measure is what is
 -- left of the size.
-use Prim.Native.Nat.{◌-◌}
 use Rattle.folds.proofs.Walks.{start, step, done}
 use Rattle.gauss.specs.Elimination.{subtract_entry, row_subtracted}
 use mathlib.Core.Path.{ap}

@@ -1,6 +1,5 @@
 -- `line_check::count_to` meets its contract: the counts of a row are those of the row before and the label's test
 -- (`Tally`).
-use Prim.Native.Nat.{◌-◌}
 use native.Mathlib.Omega.{arith}
 use borrow.Author.Rules.{rules}
 use Rattle.counting.proofs.Tally.{tally_start, tally_next, next_decoy, next_target, mark_small}

@@ -1,5 +1,4 @@
 -- `line_check::last_later` meets its contract: the pass of `Later`, row by row from the line on.
-use Prim.Native.Nat.{◌-◌}
 use native.Mathlib.Omega.{arith}
 use borrow.Author.Rules.{rules}
 use Rattle.counting.proofs.Tally.{tally_next, next_decoy, next_target, mark_small}

@@ -1,7 +1,6 @@
 -- `precursor::ask` meets its contract: each test is the definition's.
 use mathlib.Core.Bool.{Bool, ◌&&◌}
 use Prim.Native.Nat.{ℕ}
-use borrow.Author.Tests.{not-true, not-false}
 use lib.Dec.{leb, eqb}
 use Rattle.columns.specs.Refusals.{longest}
 use Rattle.precursor.proofs.ask.Goals as goal

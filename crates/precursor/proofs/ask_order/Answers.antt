@@ -1,7 +1,7 @@
 -- `precursor::ask_order` meets its contract: each test is the definition's.
 use mathlib.Core.Bool.{Bool, ◌&&◌}
 use Prim.Native.Nat.{ℕ}
-use borrow.Author.Tests.{le-leb, lt-leb, not-true, not-false}
+use borrow.Author.Tests.{le-leb, lt-leb}
 use lib.Dec.{eqb}
 use Rattle.columns.specs.Refusals.{longest}
 use Rattle.precursor.proofs.ask_order.Goals as goal

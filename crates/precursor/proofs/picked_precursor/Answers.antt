@@ -1,10 +1,9 @@
 -- `precursor::picked_precursor` meets its contract: the questions' answer picks what is answered and left (`picked`).
-use mathlib.Core.Path.{◌≡◌, refl, sym, ap, ◌∙◌}
+use mathlib.Core.Path.{refl, sym, ap, ◌∙◌}
 use lib.ListN.{length}
 use Rattle.columns.proofs.Questions.{if_accepted, if_refused}
 use Rattle.ranking.specs.Sorted.{sorted}
 use Rattle.precursor.specs.Precursors.{picked_precursor}
-use Rattle.precursor.specs.Inner.Ready.{PrecursorReady}
 use Rattle.precursor.proofs.Questions.{precursor_lengths}
 use Rattle.precursor.proofs.Joined.{assign_asks, picked}
 use Rattle.precursor.proofs.picked_precursor.Goals as goal

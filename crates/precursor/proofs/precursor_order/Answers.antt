@@ -1,11 +1,9 @@
 -- `precursor::precursor_order` meets its contract: the questions' answer picks what is answered and left (`ordered`).
 use mathlib.Core.Path.{sym, ap, ◌∙◌}
 use mathlib.Core.List.{[]}
-use lib.ListN.{length}
 use Rattle.columns.proofs.Questions.{if_accepted, if_refused}
 use Rattle.ranking.specs.Sorted.{sorted}
 use Rattle.precursor.specs.Precursors.{precursor_order}
-use Rattle.precursor.specs.Inner.Ready.{PrecursorReady}
 use Rattle.precursor.proofs.Questions.{order_lengths}
 use Rattle.precursor.proofs.Joined.{ordered}
 use Rattle.precursor.proofs.precursor_order.Goals as goal

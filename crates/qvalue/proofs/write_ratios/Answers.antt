@@ -1,6 +1,5 @@
 -- `qvalue::write_ratios` meets its contract: the counts of a row are those of the row before and the label's test
 -- (`Tally`), and the column is that of the ratios up to the row (`Rated`).
-use Prim.Native.Nat.{◌-◌}
 use native.Mathlib.Omega.{arith}
 use borrow.Author.Rules.{rules}
 use Rattle.counting.proofs.ColumnPasses.{rated_start, rated_next, rated_done}

@@ -1,5 +1,4 @@
 -- `competition::batch::add_all` meets its contract: a turn is a row's step on the table (`Adding`).
-use Prim.Native.Nat.{◌-◌}
 use borrow.Author.Rules.{rules}
 use Rattle.competition.proofs.RowSteps.{adding_start, adding_row, adding_step, adding_done}
 use Rattle.competition.proofs.batch.add_all.Goals as goal

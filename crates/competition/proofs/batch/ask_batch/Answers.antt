@@ -1,6 +1,4 @@
 -- `competition::ask_batch` meets its contract: each test is the definition's.
-use mathlib.Core.Bool.{◌&&◌}
-use borrow.Author.Tests.{not-true, not-false}
 use Rattle.competition.proofs.batch.ask_batch.Goals as goal
 
 pub returns-then-not-batch_short-table_short : goal.returns-then-not-batch_short-table_short

@@ -1,5 +1,4 @@
 -- `competition::batch::slots_allowed` meets its contract: `all` answers for the slots passed (`Asking`).
-use Prim.Native.Nat.{◌-◌}
 use borrow.Author.Rules.{rules}
 use Rattle.competition.proofs.Slots.{asking_start, asking_step, asking_done}
 use Rattle.competition.proofs.batch.slots_allowed.Goals as goal

@@ -1,5 +1,4 @@
 -- `competition::table::ask_fresh` meets its contract: each test is the definition's.
-use borrow.Author.Tests.{not-true, not-false}
 use Rattle.competition.proofs.table.ask_fresh.Goals as goal
 
 pub returns-then-not-table_short : goal.returns-then-not-table_short

@@ -1,7 +1,4 @@
 -- `competition::winner::ask_winners` meets its contract: each test is the definition's.
-use mathlib.Core.Bool.{◌&&◌}
-use borrow.Author.Tests.{not-true, not-false}
-use lib.Dec.{eqb}
 use lib.ListN.{length}
 use Rattle.competition.proofs.winner.ask_winners.Goals as goal
 

@@ -1,7 +1,7 @@
 -- `fdr::naming::name_q_values` meets its contract: what is left of the rows is to be written over the column
 -- (`Naming`).
 use mathlib.Core.Path.{ap, ◌∙◌}
-use Prim.Native.Nat.{◌-◌, ◌<◌}
+use Prim.Native.Nat.{◌<◌}
 use lib.ListN.{length}
 use Rattle.fdr.specs.Inner.Passes.{written_at_names}
 use Rattle.fdr.proofs.NameColumn.{naming_start, naming_step, naming_in_bounds, naming_done}

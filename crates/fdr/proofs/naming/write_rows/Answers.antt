@@ -1,7 +1,6 @@
 -- `fdr::naming::write_rows` meets its contract: the column is written from the front (`Writing`).
 use mathlib.Core.Path.{◌≡◌, ap, ◌∙◌}
 use mathlib.Core.Bool.{false}
-use Prim.Native.Nat.{◌-◌}
 use mir.Syntax.{w32}
 use mir.ValLaws.{to_z-of_z}
 use lib.Dec.{eqb}

@@ -1,6 +1,5 @@
 -- `fdr::packing::pack` meets its contract: the keys so far are those of the slots passed (`Packing`).
 use mathlib.Core.Path.{◌∙◌}
-use Prim.Native.Nat.{◌-◌}
 use native.Mathlib.Omega.{arith}
 use Rattle.fdr.proofs.SidesPacked.{packing_start, packing_step, packing_done}
 use borrow.Author.Rules.{rules}

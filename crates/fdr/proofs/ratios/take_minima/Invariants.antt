@@ -1,5 +1,4 @@
 -- `fdr::ratios::take_minima` meets its contract: the rows from i on have their least ratio (`Minima`).
-use Prim.Native.Nat.{◌-◌}
 use Rattle.fdr.proofs.Minima.{Minima}
 use Rattle.fdr.proofs.ratios.take_minima.Given as goal
 

@@ -1,7 +1,6 @@
 -- `fdr::ratios::write_ratios` meets its contract: the rows up to i have their ratios (`Summing`).
 use mathlib.Core.Path.{sym, subst}
 use mathlib.Core.Bool.{not}
-use Prim.Native.Nat.{◌-◌}
 use native.Mathlib.Omega.{arith}
 use lib.Dec.{T}
 use lib.Ieee.{Float, is_nan}

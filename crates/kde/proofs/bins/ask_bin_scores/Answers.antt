@@ -1,6 +1,6 @@
 -- `kde::bins::ask_bin_scores` meets its contract: each test is the definition's.
 use mathlib.Core.Path.{sym, ◌∙◌}
-use borrow.Author.Tests.{le-leb, lt-leb, eq-eqb, ne_eqb, not-true, not-false}
+use borrow.Author.Tests.{le-leb, lt-leb, eq-eqb, ne_eqb}
 use Rattle.columns.specs.Refusals.{longest}
 use Rattle.kde.proofs.bins.ask_bin_scores.Goals as goal
 

@@ -1,6 +1,6 @@
 -- `kde::bins::count_flags` meets its contract: the flags are counted from the front (`Counting`).
 use mathlib.Core.Path.{refl}
-use Prim.Native.Nat.{ℕ, ◌-◌}
+use Prim.Native.Nat.{ℕ}
 use lib.ListN.{get_or}
 use Rattle.folds.proofs.Folds.{counting_start, counting_step, counting_done, counting_fits}
 use lib.Dec.{eqb}

@@ -1,7 +1,6 @@
 -- `kde::bins::mix` meets its contract: the column is written from the front (`Writing`), by the definition's own
 -- operations.
 use mathlib.Core.Path.{refl}
-use Prim.Native.Nat.{◌-◌}
 use Rattle.folds.proofs.Writing.{writing_start, writing_next, writing_all}
 use Rattle.kde.proofs.bins.mix.Goals as goal
 

@@ -1,5 +1,4 @@
 -- `kde::bins::score_range` meets its contract: both numbers are folded over the scores from the front (`Folding`).
-use Prim.Native.Nat.{◌-◌}
 use lib.Ieee.{nan}
 use Rattle.folds.proofs.Folds.{folding_start, folding_step, folding_done}
 use Rattle.kde.proofs.bins.score_range.Goals as goal

@@ -1,7 +1,7 @@
 -- `kde::bins::write_bin_scores` meets its contract: the column is written from the front (`Writing`), by the
 -- definition's own operations.
 use mathlib.Core.Path.{refl}
-use Prim.Native.Nat.{◌-◌, ◌^◌}
+use Prim.Native.Nat.{◌^◌}
 use lib.Dec.{le→leb}
 use lib.Ieee.{in_float}
 use native.Mathlib.Omega.{arith}

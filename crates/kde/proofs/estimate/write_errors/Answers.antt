@@ -1,7 +1,6 @@
 -- `kde::estimate::write_errors` meets its contract: the column is written from the front (`Writing`), each place by the
 -- definition of one.
 use mathlib.Core.Path.{refl}
-use Prim.Native.Nat.{◌-◌}
 use lib.Ieee.{nan}
 use Rattle.folds.proofs.Writing.{writing_start, writing_next, writing_mapped}
 use Rattle.kde.specs.Estimate.{posterior_error}

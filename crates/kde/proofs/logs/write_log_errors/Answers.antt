@@ -1,7 +1,6 @@
 -- `kde::logs::write_log_errors` meets its contract: the column is written from the front (`Writing`), each place by the
 -- definition of one.
 use mathlib.Core.Path.{refl}
-use Prim.Native.Nat.{◌-◌}
 use lib.Ieee.{nan}
 use Rattle.folds.proofs.Writing.{writing_start, writing_next, writing_mapped}
 use Rattle.kde.specs.LogErrors.{log_error}

@@ -3,7 +3,6 @@ use mathlib.Core.Path.{◌≡◌, sym, ◌∙◌}
 use mathlib.Core.Bool.{true, ◌&&◌}
 use Prim.Native.Nat.{◌*◌}
 use lib.Dec.{leb, eqb}
-use borrow.Author.Tests.{not-true, not-false}
 use Rattle.columns.specs.Refusals.{longest}
 use Rattle.linear_discriminant.proofs.fit.ask.Goals as goal
 use Rattle.linear_discriminant.proofs.fit.ask.Goals.{Else-not-labels-features, Else-not-twenty_each}

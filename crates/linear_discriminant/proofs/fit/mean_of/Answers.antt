@@ -1,7 +1,7 @@
 -- `linear_discriminant::fit::mean_of` meets its contract: a column written from the front. A count of rows is exact as
 -- an f64.
 use mathlib.Core.Path.{refl}
-use Prim.Native.Nat.{◌-◌, ◌^◌}
+use Prim.Native.Nat.{◌^◌}
 use lib.Dec.{le→leb}
 use lib.Ieee.{in_float}
 use borrow.Author.Rules.{rules}

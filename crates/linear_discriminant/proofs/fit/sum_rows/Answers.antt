@@ -1,5 +1,4 @@
 -- `linear_discriminant::fit::sum_rows` meets its contract: a walk over the rows.
-use Prim.Native.Nat.{◌-◌}
 use lib.IntN.{pos}
 use lib.ListN.{get_or}
 use borrow.Author.Rules.{rules}

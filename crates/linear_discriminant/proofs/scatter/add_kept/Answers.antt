@@ -1,7 +1,6 @@
 -- `linear_discriminant::scatter::add_kept` meets its contract: a walk over the wide pairs of rows, and one over the
 -- others.
 use mathlib.Core.Path.{◌∙◌, ap}
-use Prim.Native.Nat.{◌-◌}
 use borrow.Author.Rules.{rules}
 use Rattle.folds.specs.Walks.{for_range}
 use Rattle.folds.proofs.Walks.{start, step_by, done}

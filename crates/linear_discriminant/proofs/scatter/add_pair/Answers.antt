@@ -1,7 +1,7 @@
 -- `linear_discriminant::scatter::add_pair` meets its contract: two rows are read, the kept rows are added to them one
 -- by one, entry by entry, and the two are written back.
 use mathlib.Core.Path.{refl}
-use Prim.Native.Nat.{◌+◌, ◌-◌}
+use Prim.Native.Nat.{◌+◌}
 use borrow.Author.Rules.{rules}
 use Rattle.folds.proofs.Writing.{writing_start, writing_step, writing_done, rewriting_start, rewriting_step, rewriting_done}
 use Rattle.linear_discriminant.proofs.Accumulated.{length_accumulated, accumulated_none, accumulated_more, pair_done}

@@ -1,7 +1,6 @@
 -- `linear_discriminant::scatter::class_scatters` meets its contract. The invariant: of each class, the table and the
 -- kept rows together hold the rows passed (`Gathered`); the measure is what is left of the rows.
 use mathlib.Core.Path.{refl}
-use Prim.Native.Nat.{◌-◌}
 use native.Mathlib.Omega.{arith}
 use lib.IntN.{pos}
 use lib.ListN.{get_or}

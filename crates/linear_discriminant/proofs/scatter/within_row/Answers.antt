@@ -1,6 +1,5 @@
 -- `linear_discriminant::scatter::within_row` meets its contract: a column written from the front.
 use mathlib.Core.Path.{refl}
-use Prim.Native.Nat.{◌-◌}
 use borrow.Author.Rules.{rules}
 use Rattle.folds.proofs.Writing.{writing_start, writing_step, writing_done}
 use Rattle.linear_discriminant.specs.Inner.Passes.{within_row}

@@ -1,7 +1,6 @@
 -- `linear_discriminant::scores::all_finite` meets its contract: the invariant is that `all` says it of the coefficients
 -- passed.
 use mathlib.Core.Path.{refl}
-use Prim.Native.Nat.{◌-◌}
 use borrow.Author.Rules.{rules}
 use Rattle.folds.specs.Walks.{every}
 use Rattle.linear_discriminant.specs.Scores.{all_finite}

@@ -3,7 +3,7 @@ use mathlib.Core.Path.{◌≡◌, sym, ◌∙◌}
 use mathlib.Core.Bool.{true, ◌&&◌}
 use Prim.Native.Nat.{◌*◌}
 use lib.Dec.{leb, eqb}
-use borrow.Author.Tests.{not-true, not-false, le-leb, lt-leb}
+use borrow.Author.Tests.{le-leb, lt-leb}
 use Rattle.columns.specs.Refusals.{longest}
 use Rattle.linear_discriminant.proofs.scores.ask.Goals as goal
 use Rattle.linear_discriminant.proofs.scores.ask.Goals.{Else-not-twenty_each-narrowed}

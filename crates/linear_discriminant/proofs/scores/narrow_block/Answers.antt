@@ -1,5 +1,4 @@
 -- `linear_discriminant::scores::narrow_block` meets its contract: a walk that writes one place a turn.
-use Prim.Native.Nat.{◌-◌}
 use borrow.Author.Rules.{rules}
 use Rattle.folds.proofs.Walks.{start, step_by, done}
 use Rattle.linear_discriminant.specs.Inner.Blocks.{written}

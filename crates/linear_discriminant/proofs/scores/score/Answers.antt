@@ -1,5 +1,4 @@
 -- `linear_discriminant::scores::score` meets its contract: a walk over the row's twenty numbers.
-use Prim.Native.Nat.{◌-◌}
 use borrow.Author.Rules.{rules}
 use Rattle.folds.proofs.Walks.{start, step, done}
 use Rattle.linear_discriminant.specs.Rows.{scored}

@@ -1,7 +1,6 @@
 -- `linear_discriminant::scores::score_all` meets its contract. The invariant: both columns hold the definition's values
 -- up to the block; the measure is what is left of the rows.
 use mathlib.Core.Path.{refl, ap}
-use Prim.Native.Nat.{◌-◌}
 use lib.Ieee.{binary32}
 use borrow.Author.Rules.{rules}
 use Rattle.folds.proofs.Writing.{writing_start, writing_done}

@@ -1,7 +1,6 @@
 -- `linear_discriminant::scores::score_block` meets its contract: a walk over the block's rows, in each a walk over its
 -- twenty numbers.
 use mathlib.Core.Path.{ap}
-use Prim.Native.Nat.{◌-◌}
 use lib.ListN.{set}
 use borrow.Author.Rules.{rules}
 use Rattle.folds.proofs.Walks.{start, step, step_by, done}

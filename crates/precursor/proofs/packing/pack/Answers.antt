@@ -1,5 +1,4 @@
 -- `precursor::packing::pack` meets its contract: each place of the column gets the key of its row (`Writing`).
-use Prim.Native.Nat.{◌-◌}
 use borrow.Author.Rules.{rules}
 use lib.IntN.{pos}
 use lib.ListN.{get_or}

@@ -1,5 +1,4 @@
 -- `precursor::packing::pack_scores` meets its contract: each place of the column gets the key of its row (`Writing`).
-use Prim.Native.Nat.{◌-◌}
 use borrow.Author.Rules.{rules}
 use Rattle.folds.proofs.Writing.{writing_step, writing_done}
 use Rattle.ranking.specs.Inner.Rows.{row_keys}

@@ -1,5 +1,4 @@
 -- `precursor::passes::assign_q_value` meets its contract: `Assigned` is its loop's invariant, and i the measure.
-use Prim.Native.Nat.{◌-◌}
 use Rattle.precursor.proofs.Assigned.{Assigned}
 use Rattle.precursor.proofs.passes.assign_q_value.Given as goal
 

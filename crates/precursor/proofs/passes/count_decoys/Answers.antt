@@ -1,5 +1,4 @@
 -- `precursor::passes::count_decoys` meets its contract: the last bits up to a row sum to its decoys (`DecoysCounted`).
-use Prim.Native.Nat.{◌-◌}
 use borrow.Author.Rules.{rules}
 use Rattle.precursor.proofs.Assigned.{decoys_counted_start, decoys_counted_step, decoys_counted_done}
 use Rattle.precursor.proofs.passes.count_decoys.Goals as goal

@@ -1,7 +1,6 @@
 -- `precursor::passes::write_order` meets its contract: each place of the column gets the place of its key (`Writing`).
 use mathlib.Core.Path.{sym, ◌∙◌}
 use mathlib.Core.List.{map}
-use Prim.Native.Nat.{◌-◌}
 use native.Mathlib.Omega.{arith}
 use borrow.Author.Rules.{rules}
 use lib.ListN.{length-map, get_or-map}
