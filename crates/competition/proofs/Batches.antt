@@ -16,7 +16,7 @@ use Rattle.folds.proofs.Tests.{both_true}
 use Rattle.folds.specs.Lists.{filled}
 use Rattle.floats.specs.Constants.{f32_min}
 use Rattle.floats.specs.MinMax.{max_number}
-use Rattle.floats.proofs.Order.{max_nan, eq→le, float_le_refl}
+use Rattle.floats.proofs.Order.{max_nan, eq→le, le_refl}
 use Rattle.columns.specs.Refusals.{longest}
 use Rattle.columns.specs.declared.Outcome.TheVariants.{Accepted}
 use Rattle.counting.specs.Labels.{is_decoy}
@@ -169,4 +169,4 @@ module _ (t : Table) (slot : ℕ) (seen : slot_seen t slot ≡ true) where
   pub same_sides : get_or t.forward slot nan ≡ get_or t.reverse slot nan
       → T (not (is_nan (get_or t.forward slot nan))) → decoy_flag t slot ≡ 1
   same_sides e n =
-      no_less (subst (λ (x : Float). T (le (get_or t.forward slot nan) x)) e (float_le_refl (get_or t.forward slot nan) n))
+      no_less (subst (λ (x : Float). T (le (get_or t.forward slot nan) x)) e (le_refl (get_or t.forward slot nan) n))

@@ -17,7 +17,7 @@ use lib.Ieee.{Float, nan, binary32, of_bits, round, lt, le}
 use lib.Ieee.Bits.{is_true}
 use Rattle.folds.proofs.Tests.{same_test}
 use Rattle.floats.specs.Ratio.{one_in}
-use Rattle.floats.proofs.Order.{float_lt_of_le_of_lt, float_lt_of_lt_of_le}
+use Rattle.floats.proofs.Order.{lt_of_le_of_lt, lt_of_lt_of_le}
 use Rattle.floats.proofs.Ratio.{Sharp, one_rounding, ratio_at_most, ratio_none, ratio_mono}
 use Rattle.counting.specs.Labels.{is_decoy, decoys, targets}
 use Rattle.counting.specs.Lines.{qualifies, right_line}
@@ -70,7 +70,7 @@ ratio_above : (d t : ℕ) → 0 < d → d ≤ 2 ^ 24 → t ≤ 2 ^ 24 → above_
 ratio_above d zero p h k = rw (ratio_none d p h) (unfold lt of_bits in tt)
 ratio_above d (suc t) p h k =
     rw (one_rounding d (suc t) h (zero-lt-suc t) k)
-    (float_lt_of_lt_of_le (of_bits binary32 0) (round binary32 false 1 (2 ^ 24)) (round binary32 false d (suc t)) (unfold lt of_bits round in tt)
+    (lt_of_lt_of_le (of_bits binary32 0) (round binary32 false 1 (2 ^ 24)) (round binary32 false d (suc t)) (unfold lt of_bits round in tt)
     (ratio_mono 1 (2 ^ 24) d (suc t) (omega arith) (omega arith) (omega arith)))
 
 module _ (labels : List ℤ) (short : length labels ≤ 16777215) where
@@ -89,7 +89,7 @@ module _ (labels : List ℤ) (short : length labels ≤ 16777215) where
     below_one : T (lt (one_in k) (of_bits binary32 0x3F800000))
     unfolding one_in
     below_one =
-        float_lt_of_le_of_lt (round binary32 false 1 k) (round binary32 false 1 2) (of_bits binary32 0x3F800000)
+        lt_of_le_of_lt (round binary32 false 1 k) (round binary32 false 1 2) (of_bits binary32 0x3F800000)
         (ratio_mono 1 k 1 2 (omega arith) (omega arith) (omega arith)) (unfold lt round of_bits in tt)
 
     ratio_qualifies : (row : ℕ) → le (ratio_at labels row) (one_in k) ≡ qualifies k labels row

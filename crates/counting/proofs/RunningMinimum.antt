@@ -12,7 +12,7 @@ use lib.ListN.{length, drop, get_or}
 use lib.Ieee.{Float, nan, of_bits, is_nan, lt, le}
 use Rattle.folds.proofs.Tests.{or_l, or_r, or_split}
 use Rattle.floats.specs.MinMax.{min_number}
-use Rattle.floats.proofs.Order.{le_left, float_le_refl, min_at_most, lt→not_le, min_either, min_at_most_left}
+use Rattle.floats.proofs.Order.{le_left, le_refl, le_min, lt→not_le, min_either, min_le_left}
 use Rattle.floats.specs.Constants.{f32_one}
 use Rattle.counting.specs.QValues.{minimum, running_minimum, count_at_most}
 
@@ -21,12 +21,12 @@ use Rattle.counting.specs.QValues.{minimum, running_minimum, count_at_most}
 pub minimum_number : (rs : List Float) → T (not (is_nan (minimum rs)))
 unfolding minimum is_nan of_bits
 minimum_number [] = tt
-minimum_number (r ∷ rs) = le_left (min_number (minimum rs) r) (minimum rs) (min_at_most_left (minimum rs) r (minimum_number rs))
+minimum_number (r ∷ rs) = le_left (min_number (minimum rs) r) (minimum rs) (min_le_left (minimum rs) r (minimum_number rs))
 
 pub minimum_most : (rs : List Float) → T (le (minimum rs) f32_one)
 unfolding minimum
-minimum_most [] = float_le_refl f32_one (minimum_number [])
-minimum_most (r ∷ rs) = rw min_at_most (or_l (le (minimum rs) f32_one) (le r f32_one) (minimum_most rs))
+minimum_most [] = le_refl f32_one (minimum_number [])
+minimum_most (r ∷ rs) = rw le_min (or_l (le (minimum rs) f32_one) (le r f32_one) (minimum_most rs))
 
 pub minimum_above : (c : Float) → T (lt c f32_one) → (rs : List Float)
     → ((j : ℕ) → j < length rs → T (lt c (get_or rs j nan))) → T (lt c (minimum rs))
@@ -41,15 +41,15 @@ pub minimum_of : (c : Float) (rs : List Float) (j : ℕ) → j < length rs → T
     → T (le (minimum rs) c)
 unfolding minimum
 minimum_of c [] j h t = absurd (not-suc-le-zero h)
-minimum_of c (r ∷ rs) zero h t = rw min_at_most (or_r (le (minimum rs) c) (le r c) t)
-minimum_of c (r ∷ rs) (suc j) h t = rw min_at_most (or_l (le (minimum rs) c) (le r c) (minimum_of c rs j (le_of_suc-le-suc h) t))
+minimum_of c (r ∷ rs) zero h t = rw le_min (or_r (le (minimum rs) c) (le r c) t)
+minimum_of c (r ∷ rs) (suc j) h t = rw le_min (or_l (le (minimum rs) c) (le r c) (minimum_of c rs j (le_of_suc-le-suc h) t))
 
 -- and, for a c below 1.0, only there
 pub minimum_from : (c : Float) → T (lt c f32_one) → (rs : List Float) → T (le (minimum rs) c)
     → (j : ℕ) × (j < length rs) × T (le (get_or rs j nan) c)
 unfolding minimum
 minimum_from c h [] t = absurd (lt→not_le c f32_one h t)
-minimum_from c h (r ∷ rs) t = elim (or_split (le (minimum rs) c) (le r c) (rw min_at_most at t)) [
+minimum_from c h (r ∷ rs) t = elim (or_split (le (minimum rs) c) (le r c) (rw le_min at t)) [
   | inl u ↦ let w = minimum_from c h rs u in (suc w.0, omega (arith, w.1), w.2)
   | inr u ↦ (0, zero-lt-suc (length rs), u)
 ]
@@ -73,7 +73,7 @@ pub running_minimum_rise : (rs : List Float) (i : ℕ) → suc i < length rs
 unfolding running_minimum minimum
 running_minimum_rise [] i h = absurd (not-suc-le-zero h)
 running_minimum_rise (r ∷ []) i h = absurd (not-suc-le-zero (le_of_suc-le-suc h))
-running_minimum_rise (r ∷ s ∷ rs) zero h = min_at_most_left (minimum (s ∷ rs)) r (minimum_number (s ∷ rs))
+running_minimum_rise (r ∷ s ∷ rs) zero h = min_le_left (minimum (s ∷ rs)) r (minimum_number (s ∷ rs))
 running_minimum_rise (r ∷ s ∷ rs) (suc i) h = running_minimum_rise (s ∷ rs) i (le_of_suc-le-suc h)
 
 -- ---- a column whose numbers up to a line are at most c, and no others, has that many at most c

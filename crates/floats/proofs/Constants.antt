@@ -6,7 +6,7 @@ use lib.Ieee.Bits.{cond_no, of_bits-fits}
 use Rattle.floats.specs.Constants.{f32_one, f64_zero, f64_one, f64_min}
 use Rattle.floats.specs.MinMax.{min_number}
 use Rattle.floats.proofs.MinMax.{min_of_number}
-use Rattle.floats.proofs.Order.{lt→not_le, float_lt_of_lt_of_le}
+use Rattle.floats.proofs.Order.{lt→not_le, lt_of_lt_of_le}
 
 pub f64_zero_is : f64_zero ≡ round binary64 false 0 1
 unfolding round of_bits
@@ -35,7 +35,7 @@ one_fits = of_bits-fits binary32 0x3F800000
 pub min_capped : (a r : Float) → T (not (is_nan a)) → T (le a f32_one) → min_number a (min_number f32_one r) ≡ min_number a r
 min_capped a r n h =
     ap (min_number a) (min_of_number f32_one r one_number)
-    ∙ go (lt r f32_one) (λ t. float_lt_of_lt_of_le r a f32_one t h)
+    ∙ go (lt r f32_one) (λ t. lt_of_lt_of_le r a f32_one t h)
   where
     least : min_number a f32_one ≡ a
     least = min_of_number a f32_one n ∙ cond_no (lt f32_one a) f32_one a (not_T (lt f32_one a) (λ t. lt→not_le f32_one a t h))

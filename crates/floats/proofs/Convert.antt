@@ -16,7 +16,7 @@ use Rattle.floats.specs.Signs.{negative}
 use Rattle.floats.specs.MinMax.{min_number, max_number}
 use Rattle.floats.proofs.Signs.{round_sign}
 use Rattle.floats.proofs.Fractions.{rescale, lt_at, add_values}
-use Rattle.floats.proofs.Order.{le_right, not_le→lt, float_lt_of_le_of_lt, min_either, min_at_most_left, min_at_most_right, max_either, max_at_least_left, max_at_least_right}
+use Rattle.floats.proofs.Order.{le_right, not_le→lt, lt_of_le_of_lt, min_either, min_le_left, min_le_right, max_either, max_ge_left, max_ge_right}
 use Rattle.floats.proofs.Zeros.{plus_zero}
 use Rattle.floats.proofs.Infinities.{Off, infinite, some}
 
@@ -80,15 +80,15 @@ module _ (w : ℕ) where
   pub convert_min : (a b : Float) → T (not (is_nan a)) → T (not (is_nan b))
       → to_unsigned w (min_number a b) ≡ min (to_unsigned w a) (to_unsigned w b)
   convert_min a b p q = elim (min_either a b) [
-    | inl e ↦ rw e (let h : to_unsigned w a ≤ to_unsigned w b = convert_mono a b (rw e at (min_at_most_right a b q)) in omega arith)
-    | inr e ↦ rw e (let h : to_unsigned w b ≤ to_unsigned w a = convert_mono b a (rw e at (min_at_most_left a b p)) in omega arith)
+    | inl e ↦ rw e (let h : to_unsigned w a ≤ to_unsigned w b = convert_mono a b (rw e at (min_le_right a b q)) in omega arith)
+    | inr e ↦ rw e (let h : to_unsigned w b ≤ to_unsigned w a = convert_mono b a (rw e at (min_le_left a b p)) in omega arith)
   ]
 
   pub convert_max : (a b : Float) → T (not (is_nan a)) → T (not (is_nan b))
       → to_unsigned w (max_number a b) ≡ max (to_unsigned w a) (to_unsigned w b)
   convert_max a b p q = elim (max_either a b) [
-    | inl e ↦ rw e (let h : to_unsigned w b ≤ to_unsigned w a = convert_mono b a (rw e at (max_at_least_right a b q)) in omega arith)
-    | inr e ↦ rw e (let h : to_unsigned w a ≤ to_unsigned w b = convert_mono a b (rw e at (max_at_least_left a b p)) in omega arith)
+    | inl e ↦ rw e (let h : to_unsigned w b ≤ to_unsigned w a = convert_mono b a (rw e at (max_ge_right a b q)) in omega arith)
+    | inr e ↦ rw e (let h : to_unsigned w a ≤ to_unsigned w b = convert_mono a b (rw e at (max_ge_left a b p)) in omega arith)
   ]
 
   -- what is below 1/2 converts to 0, as 1/2 does, and so does a NaN
@@ -128,7 +128,7 @@ module _ (w : ℕ) where
 
 pub from_half : (q : Float) → T (le half (max_number half q))
 unfolding is_nan
-from_half q = max_at_least_left half q tt
+from_half q = max_ge_left half q tt
 
 pub half_below : (q : Float) → le (fin false 1 (pos 53)) q ≡ false → T (lt (max_number half q) (fin false 1 (pos 53)))
 unfolding is_nan lt
@@ -164,8 +164,8 @@ module _ (last : ℕ) (few : last < 2 ^ 52) (q : Float) where
       | inl e ↦ rw e past_from
       | inr e ↦ rw e (from_half q)
     ],
-    float_lt_of_le_of_lt (held last q) (past_half last) (fin false 1 (pos 53))
-        (min_at_most_left (past_half last) (max_number half q) (le_right half (past_half last) past_from))
+    lt_of_le_of_lt (held last q) (past_half last) (fin false 1 (pos 53))
+        (min_le_left (past_half last) (max_number half q) (le_right half (past_half last) past_from))
         (rw (lt_at false false (last * 2 + 1) 2 (2 ^ 53) 1 (lit≤ tt) (lit≤ tt) (past_half last) (fin false 1 (pos 53)) past_value (refl, refl)) (lt→ltb ((last * 2 + 1) * 1) (2 ^ 53 * 2) (omega arith))),
   )
 

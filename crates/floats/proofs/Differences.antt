@@ -7,7 +7,7 @@ use lib.Ieee.Bits.{is_true}
 use lib.Ieee.Order.{round_mono}
 use Rattle.floats.proofs.Values.{in_format, units_of, units_value}
 use Rattle.floats.proofs.Fractions.{neg_round, lt_over, sub_over}
-use Rattle.floats.proofs.Order.{float_lt_of_lt_of_le}
+use Rattle.floats.proofs.Order.{lt_of_lt_of_le}
 use Rattle.floats.proofs.Zeros.{plus_zero}
 
 smallest_above : (f : Format) → T (lt plus_zero (round f false 1 (2 ^ low f)))
@@ -27,7 +27,7 @@ module _ (f : Format) where
   -- one smallest value or more
   above : (n : ℕ) → 0 < n → T (lt plus_zero (round f false n (2 ^ low f)))
   above n h =
-      float_lt_of_lt_of_le plus_zero (round f false 1 (2 ^ low f)) (round f false n (2 ^ low f)) (smallest_above f)
+      lt_of_lt_of_le plus_zero (round f false 1 (2 ^ low f)) (round f false n (2 ^ low f)) (smallest_above f)
       (round_mono f 1 (2 ^ low f) n (2 ^ low f) (pow_pos (low f)) (pow_pos (low f)) (mul-le-mul_right (2 ^ low f) h))
 
   under : (n : ℕ) → 0 < n → T (lt (round f true n (2 ^ low f)) plus_zero)

@@ -3,7 +3,7 @@ use Rattle.std.proofs.Common.{◌≡◌, ℕ, zero, suc, ◌<◌, not, T, List, 
 use lib.Ieee.{Float, nan, is_nan, le}
 use Rattle.folds.specs.Lists.{folded}
 use Rattle.floats.specs.MinMax.{min_number, max_number}
-use Rattle.floats.proofs.Order.{float_le_refl, float_le_trans, le_left, le_right, min_nan, max_nan, min_at_most_left, min_at_most_right, max_at_least_left, max_at_least_right}
+use Rattle.floats.proofs.Order.{le_refl, le_trans, le_left, le_right, min_nan, max_nan, min_le_left, min_le_right, max_ge_left, max_ge_right}
 
 -- of `f a b` and two numbers it may stand in an order with, for both orders
 module _ (f : Float → Float → Float) (R : Float → Float → Type 0) (same : (a : Float) → T (not (is_nan a)) → R a a)
@@ -28,11 +28,11 @@ module _ (f : Float → Float → Float) (R : Float → Float → Type 0) (same 
 
 module _ (m : Float) (l : List Float) (k : ℕ) (h : k < length l) (p : T (not (is_nan (get_or l k nan)))) where
   pub least_le : T (le (folded min_number m l) (get_or l k nan))
-  least_le = folded_any min_number (λ (a b : Float). T (le a b)) float_le_refl float_le_trans le_left min_at_most_left min_at_most_right m l k h p
+  least_le = folded_any min_number (λ (a b : Float). T (le a b)) le_refl le_trans le_left min_le_left min_le_right m l k h p
 
   pub greatest_ge : T (le (get_or l k nan) (folded max_number m l))
   greatest_ge =
-      folded_any max_number (λ (a b : Float). T (le b a)) float_le_refl (λ a b c r q. float_le_trans c b a q r) (λ a b. le_right b a) max_at_least_left max_at_least_right m l k h p
+      folded_any max_number (λ (a b : Float). T (le b a)) le_refl (λ a b c r q. le_trans c b a q r) (λ a b. le_right b a) max_ge_left max_ge_right m l k h p
 
 passed : (f : Float → Float → Float) → ((m : Float) → f m nan ≡ m) → (m : Float) (l r : List Float)
     → folded f m (l ++ nan ∷ r) ≡ folded f m (l ++ r)

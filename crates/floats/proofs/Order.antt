@@ -125,24 +125,24 @@ minus_infinity_least (inf true) p = tt
 minus_infinity_least (inf false) p = tt
 minus_infinity_least (fin s m e) p = tt
 
-pub float_le_trans : (x y z : Float) → T (le x y) → T (le y z) → T (le x z)
+pub le_trans : (x y z : Float) → T (le x y) → T (le y z) → T (le x z)
 unfolding le
-float_le_trans nan y z p q = absurd p
-float_le_trans (inf true) y z p q = minus_infinity_least z (le_right y z q)
-float_le_trans (inf false) nan z p q = absurd p
-float_le_trans (inf false) (inf true) z p q = absurd p
-float_le_trans (inf false) (inf false) z p q = q
-float_le_trans (inf false) (fin t n d) z p q = absurd p
-float_le_trans (fin s m e) nan z p q = absurd p
-float_le_trans (fin s m e) (inf true) z p q = absurd p
-float_le_trans (fin s m e) (inf false) nan p q = absurd q
-float_le_trans (fin s m e) (inf false) (inf true) p q = absurd q
-float_le_trans (fin s m e) (inf false) (inf false) p q = tt
-float_le_trans (fin s m e) (inf false) (fin u k g) p q = absurd q
-float_le_trans (fin s m e) (fin t n d) nan p q = absurd q
-float_le_trans (fin s m e) (fin t n d) (inf true) p q = absurd q
-float_le_trans (fin s m e) (fin t n d) (inf false) p q = tt
-float_le_trans (fin s m e) (fin t n d) (fin u k g) p q =
+le_trans nan y z p q = absurd p
+le_trans (inf true) y z p q = minus_infinity_least z (le_right y z q)
+le_trans (inf false) nan z p q = absurd p
+le_trans (inf false) (inf true) z p q = absurd p
+le_trans (inf false) (inf false) z p q = q
+le_trans (inf false) (fin t n d) z p q = absurd p
+le_trans (fin s m e) nan z p q = absurd p
+le_trans (fin s m e) (inf true) z p q = absurd p
+le_trans (fin s m e) (inf false) nan p q = absurd q
+le_trans (fin s m e) (inf false) (inf true) p q = absurd q
+le_trans (fin s m e) (inf false) (inf false) p q = tt
+le_trans (fin s m e) (inf false) (fin u k g) p q = absurd q
+le_trans (fin s m e) (fin t n d) nan p q = absurd q
+le_trans (fin s m e) (fin t n d) (inf true) p q = absurd q
+le_trans (fin s m e) (fin t n d) (inf false) p q = tt
+le_trans (fin s m e) (fin t n d) (fin u k g) p q =
     rw le_fin
     (le→leb (cross s m e u k g) (cross u k g s m e)
     (through (gain s (m * up e)) (loss s (m * up e)) (down e) (gain t (n * up d)) (loss t (n * up d)) (down d)
@@ -182,17 +182,17 @@ lt→not_le x y p q = T_not (le y x) (rw (lt_is_not_le x y (le_left x y (lt→le
 pub not_le→lt : (x y : Float) → T (not (is_nan x)) → T (not (is_nan y)) → (T (le y x) → ⊥) → T (lt x y)
 not_le→lt x y p q h = rw (lt_is_not_le x y p q) (not_T (le y x) h)
 
-pub float_lt_of_le_of_lt : (x y z : Float) → T (le x y) → T (lt y z) → T (lt x z)
-float_lt_of_le_of_lt x y z p q = not_le→lt x z (le_left x y p) (le_right y z (lt→le y z q)) (λ r. lt→not_le y z q (float_le_trans z x y r p))
+pub lt_of_le_of_lt : (x y z : Float) → T (le x y) → T (lt y z) → T (lt x z)
+lt_of_le_of_lt x y z p q = not_le→lt x z (le_left x y p) (le_right y z (lt→le y z q)) (λ r. lt→not_le y z q (le_trans z x y r p))
 
-pub float_lt_of_lt_of_le : (x y z : Float) → T (lt x y) → T (le y z) → T (lt x z)
-float_lt_of_lt_of_le x y z p q = not_le→lt x z (le_left x y (lt→le x y p)) (le_right y z q) (λ r. lt→not_le x y p (float_le_trans y z x q r))
+pub lt_of_lt_of_le : (x y z : Float) → T (lt x y) → T (le y z) → T (lt x z)
+lt_of_lt_of_le x y z p q = not_le→lt x z (le_left x y (lt→le x y p)) (le_right y z q) (λ r. lt→not_le x y p (le_trans y z x q r))
 
-pub float_lt_trans : (x y z : Float) → T (lt x y) → T (lt y z) → T (lt x z)
-float_lt_trans x y z p q = float_lt_of_lt_of_le x y z p (lt→le y z q)
+pub lt_trans : (x y z : Float) → T (lt x y) → T (lt y z) → T (lt x z)
+lt_trans x y z p q = lt_of_lt_of_le x y z p (lt→le y z q)
 
-pub float_le_total : (x y : Float) → T (not (is_nan x)) → T (not (is_nan y)) → T (le x y) ⊎ T (le y x)
-float_le_total x y p q = elim (yes_or_no (le y x)) [ inl t ↦ inr t | inr t ↦ inl (lt→le x y (rw (lt_is_not_le x y p q) t)) ]
+pub le_total : (x y : Float) → T (not (is_nan x)) → T (not (is_nan y)) → T (le x y) ⊎ T (le y x)
+le_total x y p q = elim (yes_or_no (le y x)) [ inl t ↦ inr t | inr t ↦ inl (lt→le x y (rw (lt_is_not_le x y p q) t)) ]
 
 pub not_lt→le : (x y : Float) → T (not (is_nan x)) → T (not (is_nan y)) → lt x y ≡ false → T (le y x)
 not_lt→le x y p q e = go (le y x) (sym e ∙ lt_is_not_le x y p q)
@@ -201,8 +201,8 @@ not_lt→le x y p q e = go (le y x) (sym e ∙ lt_is_not_le x y p q)
     go true e = tt
     go false e = absurd (false≢true e)
 
-pub float_le_refl : (x : Float) → T (not (is_nan x)) → T (le x x)
-float_le_refl x p = elim (float_le_total x x p p) [ inl t ↦ t | inr t ↦ t ]
+pub le_refl : (x : Float) → T (not (is_nan x)) → T (le x x)
+le_refl x p = elim (le_total x x p p) [ inl t ↦ t | inr t ↦ t ]
 
 -- ---- the smaller and the larger
 
@@ -220,29 +220,29 @@ lower : (a b c : Float) → T (not (is_nan a)) → le (cond (lt b a) b a) c ≡ 
 lower a b c p = go (lt b a) refl
   where
     go : (t : Bool) → lt b a ≡ t → le (cond t b a) c ≡ (le a c || le b c)
-    go true e = or_is_right (le a c) (le b c) (λ q. float_le_trans b a c (lt→le b a (passes _ e)) q)
-    go false e = or_is_left (le a c) (le b c) (λ q. float_le_trans a b c (not_lt→le b a (le_left b c q) p e) q)
+    go true e = or_is_right (le a c) (le b c) (λ q. le_trans b a c (lt→le b a (passes _ e)) q)
+    go false e = or_is_left (le a c) (le b c) (λ q. le_trans a b c (not_lt→le b a (le_left b c q) p e) q)
 
 -- the second if it is larger, else the first: at least c where one of them is
 upper : (a b c : Float) → T (not (is_nan a)) → le c (cond (lt a b) b a) ≡ (le c a || le c b)
 upper a b c p = go (lt a b) refl
   where
     go : (t : Bool) → lt a b ≡ t → le c (cond t b a) ≡ (le c a || le c b)
-    go true e = or_is_right (le c a) (le c b) (λ q. float_le_trans c a b q (lt→le a b (passes _ e)))
-    go false e = or_is_left (le c a) (le c b) (λ q. float_le_trans c b a q (not_lt→le a b p (le_right c b q) e))
+    go true e = or_is_right (le c a) (le c b) (λ q. le_trans c a b q (lt→le a b (passes _ e)))
+    go false e = or_is_left (le c a) (le c b) (λ q. le_trans c b a q (not_lt→le a b p (le_right c b q) e))
 
 -- the NaN included: it is at most nothing
-pub min_at_most : (a b c : Float) → le (min_number a b) c ≡ (le a c || le b c)
+pub le_min : (a b c : Float) → le (min_number a b) c ≡ (le a c || le b c)
 unfolding min_number is_nan
-min_at_most nan b c = unfold le in refl
-min_at_most (inf s) b c = lower (inf s) b c tt
-min_at_most (fin s m e) b c = lower (fin s m e) b c tt
+le_min nan b c = unfold le in refl
+le_min (inf s) b c = lower (inf s) b c tt
+le_min (fin s m e) b c = lower (fin s m e) b c tt
 
-pub max_at_least : (a b c : Float) → le c (max_number a b) ≡ (le c a || le c b)
+pub le_max : (a b c : Float) → le c (max_number a b) ≡ (le c a || le c b)
 unfolding max_number is_nan
-max_at_least nan b c = rw le_nan
-max_at_least (inf s) b c = upper (inf s) b c tt
-max_at_least (fin s m e) b c = upper (fin s m e) b c tt
+le_max nan b c = rw le_nan
+le_max (inf s) b c = upper (inf s) b c tt
+le_max (fin s m e) b c = upper (fin s m e) b c tt
 
 pub min_nan : (a : Float) → min_number a nan ≡ a
 unfolding min_number
@@ -288,20 +288,20 @@ max_either nan b = inr refl
 max_either (inf s) b = one_of (lt (inf s) b) (inf s) b
 max_either (fin s m e) b = one_of (lt (fin s m e) b) (fin s m e) b
 
-pub min_at_most_left : (a b : Float) → T (not (is_nan a)) → T (le (min_number a b) a)
-min_at_most_left a b p = rw min_at_most (or_l (le a a) (le b a) (float_le_refl a p))
+pub min_le_left : (a b : Float) → T (not (is_nan a)) → T (le (min_number a b) a)
+min_le_left a b p = rw le_min (or_l (le a a) (le b a) (le_refl a p))
 
-pub min_at_most_right : (a b : Float) → T (not (is_nan b)) → T (le (min_number a b) b)
-min_at_most_right a b p = rw min_at_most (or_r (le a b) (le b b) (float_le_refl b p))
+pub min_le_right : (a b : Float) → T (not (is_nan b)) → T (le (min_number a b) b)
+min_le_right a b p = rw le_min (or_r (le a b) (le b b) (le_refl b p))
 
 pub min_number_lem : (a b : Float) → T (not (is_nan a)) → T (not (is_nan (min_number a b)))
-min_number_lem a b h = le_left (min_number a b) a (min_at_most_left a b h)
+min_number_lem a b h = le_left (min_number a b) a (min_le_left a b h)
 
-pub max_at_least_left : (a b : Float) → T (not (is_nan a)) → T (le a (max_number a b))
-max_at_least_left a b p = rw max_at_least (or_l (le a a) (le a b) (float_le_refl a p))
+pub max_ge_left : (a b : Float) → T (not (is_nan a)) → T (le a (max_number a b))
+max_ge_left a b p = rw le_max (or_l (le a a) (le a b) (le_refl a p))
 
-pub max_at_least_right : (a b : Float) → T (not (is_nan b)) → T (le b (max_number a b))
-max_at_least_right a b p = rw max_at_least (or_r (le b a) (le b b) (float_le_refl b p))
+pub max_ge_right : (a b : Float) → T (not (is_nan b)) → T (le b (max_number a b))
+max_ge_right a b p = rw le_max (or_r (le b a) (le b b) (le_refl b p))
 
 -- ---- of the format
 

@@ -12,7 +12,7 @@ use lib.Ieee.Positive.{positive, positive_of_value}
 use Rattle.folds.proofs.Tests.{no_truth}
 use Rattle.floats.specs.Ratio.{one_in}
 use Rattle.floats.proofs.Fractions.{div_at, add_at}
-use Rattle.floats.proofs.Order.{lt→not_le, float_le_trans, float_lt_of_le_of_lt}
+use Rattle.floats.proofs.Order.{lt→not_le, le_trans, lt_of_le_of_lt}
 
 pub one_in_100 : one_in 100 ≡ of_bits binary32 0x3C23D70A
 unfolding one_in round of_bits
@@ -68,7 +68,7 @@ inf_lt (inf t) = refl
 inf_lt (fin t n d) = refl
 
 inf_le : (x y : Float) → T (lt x y) → le (inf false) x ≡ false
-inf_le x y h = no_truth (le (inf false) x) (λ t. rw inf_lt at (float_lt_of_le_of_lt (inf false) x y t h))
+inf_le x y h = no_truth (le (inf false) x) (λ t. rw inf_lt at (lt_of_le_of_lt (inf false) x y t h))
 
 -- The next ratio above 1/k that two counts below 2^24 can have is 2^24 / (k·(2^24 − 1)) or more: the format tells it
 -- from 1/k.
@@ -107,6 +107,6 @@ ratio_at_most k K sharp d (suc t) p h q = go (leb (k * d) (suc t)) refl
     go false e =
         let w : d * (k * (2 ^ 24 - 1)) ≡ k * d * (2 ^ 24 - 1) = simp (mul_assoc, mul_left_comm) in
         let B = round binary32 false (2 ^ 24) (k * (2 ^ 24 - 1)) in
-        no_truth (le r (one_in k)) (λ u. lt→not_le (one_in k) B sharp (float_le_trans B r (one_in k)
+        no_truth (le r (one_in k)) (λ u. lt→not_le (one_in k) B sharp (le_trans B r (one_in k)
         (rw is (round_mono binary32 (2 ^ 24) (k * (2 ^ 24 - 1)) d (suc t) (mul-pos K (lit≤ tt)) (zero-lt-suc t)
         (omega (arith, leb-false (k * d) (suc t) e)))) u))

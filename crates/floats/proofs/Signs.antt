@@ -8,7 +8,7 @@ use Rattle.floats.specs.Signs.{negative}
 use Rattle.floats.specs.Convert.{converted}
 use Rattle.floats.specs.Whole.{ceiled}
 use Rattle.floats.specs.MinMax.{max_number}
-use Rattle.floats.proofs.Order.{le_right, lt→le, float_lt_of_lt_of_le, max_at_least_right}
+use Rattle.floats.proofs.Order.{le_right, lt→le, lt_of_lt_of_le, max_ge_right}
 
 -- ---- the magnitude
 
@@ -108,5 +108,5 @@ pub ceil_max_absolute : (f : Format) (x y : Float) → T (lt (fin false 0 (pos 0
     → absolute (ceiled f (max_number x y)) ≡ ceiled f (max_number x y)
 ceil_max_absolute f x y t =
     let z = fin false 0 (pos 0) in
-    let up = max_at_least_right x y (le_right z y (lt→le z y t)) in
-    no_sign (ceiled f (max_number x y)) (ceil_sign f (max_number x y) ∙ above_sign (max_number x y) (float_lt_of_lt_of_le z y (max_number x y) t up))
+    let up = max_ge_right x y (le_right z y (lt→le z y t)) in
+    no_sign (ceiled f (max_number x y)) (ceil_sign f (max_number x y) ∙ above_sign (max_number x y) (lt_of_lt_of_le z y (max_number x y) t up))

@@ -18,7 +18,7 @@ use denote.Floats.{passes}
 use Rattle.folds.proofs.Tests.{same_test, yes_or_no, or_split, or_l}
 use Rattle.floats.proofs.Signs.{absolute, absolute_fits, bits_sign, magnitude_lt}
 use Rattle.floats.proofs.Values.{units_of, in_format, units_below}
-use Rattle.floats.proofs.Order.{both_zero, lt→le, eq→le, lt→not_le, float_lt_trans, float_lt_of_le_of_lt, float_lt_of_lt_of_le}
+use Rattle.floats.proofs.Order.{both_zero, lt→le, eq→le, lt→not_le, lt_trans, lt_of_le_of_lt, lt_of_lt_of_le}
 
 -- ---- a strict order of all floats
 
@@ -69,8 +69,8 @@ lt→before (fin s m e) (fin t n d) p = or_l (lt (fin s m e) (fin t n d)) (eq (f
 -- transitive, where the last is not the NaN
 chained : (x y z : Float) → T (not (is_nan z)) → T (before x y) → T (before y z) → T (before x z)
 chained x y z r p q = elim (by_value x y (before_left y z q) p) [
-  | inl a ↦ elim (by_value y z r q) [ inl b ↦ lt→before x z (float_lt_trans x y z a b) | inr b ↦ lt→before x z (float_lt_of_lt_of_le x y z a b.0) ]
-  | inr a ↦ elim (by_value y z r q) [ inl b ↦ lt→before x z (float_lt_of_le_of_lt x y z a.0 b) | inr b ↦ absurd (T_not (negative y) a.2 b.1) ]
+  | inl a ↦ elim (by_value y z r q) [ inl b ↦ lt→before x z (lt_trans x y z a b) | inr b ↦ lt→before x z (lt_of_lt_of_le x y z a b.0) ]
+  | inr a ↦ elim (by_value y z r q) [ inl b ↦ lt→before x z (lt_of_le_of_lt x y z a.0 b) | inr b ↦ absurd (T_not (negative y) a.2 b.1) ]
 ]
 
 pub before_trans : (x y z : Float) → T (before x y) → T (before y z) → T (before x z)

@@ -18,7 +18,7 @@ use Rattle.folds.specs.Walks.{for_range}
 use Rattle.folds.proofs.Tests.{lt_or_ge}
 use Rattle.folds.proofs.Walks.{steps_keep, for_range_keeps, for_range_alike}
 use Rattle.floats.specs.Constants.{f64_min, f64_zero}
-use Rattle.floats.proofs.Order.{le_right, float_le_refl, float_le_trans, lt→le, lt→not_le, not_le→lt}
+use Rattle.floats.proofs.Order.{le_right, le_refl, le_trans, lt→le, lt→not_le, not_le→lt}
 use Rattle.gauss.specs.declared.Pivot.{Pivot}
 use Rattle.gauss.specs.Elimination.{Vector, Matrix, row, entry, set_entry, swapped, larger, pivot_row, subtract_entry, row_subtracted}
 use Rattle.gauss.specs.Elimination.{clear_row, cleared_below, echelon_column, clear_row_above, cleared_above}
@@ -51,7 +51,7 @@ module _ (h k : ℕ) (m : Matrix) where
   unfolding is_nan neg of_bits
   best_start =
       record {
-        low = float_le_refl f64_min tt;
+        low = le_refl f64_min tt;
         picked = inl (refl, λ i l u. absurd (none i l u));
         most = λ i l u. absurd (none i l u);
         later = λ i l g u. absurd (none i l u);
@@ -72,11 +72,11 @@ module _ (h k : ℕ) (m : Matrix) where
       taken : T (le max.value x) → Best (suc j) (record { row = j; value = x })
       taken t =
           record {
-            low = float_le_trans f64_min max.value x w.low t;
+            low = le_trans f64_min max.value x w.low t;
             picked = inr (refl, at, omega arith);
             most = λ i l u. up_to (λ i. h ≤ i → counts i → T (le (entry m i k) x)) j
-                (λ i u l c. float_le_trans (entry m i k) max.value x (w.most i l u c) t)
-                (λ l c. float_le_refl x (le_right max.value x t))
+                (λ i u l c. le_trans (entry m i k) max.value x (w.most i l u c) t)
+                (λ l c. le_refl x (le_right max.value x t))
                 i u l;
             later = λ i l g u. absurd (none i g u);
           }
@@ -145,7 +145,7 @@ pivot_only size h k m i l u c p w = elim (lt_or_ge p q) [
     v = pivot_is_largest size h k m i l u c
 
     counts : (p : ℕ) → Largest size h k m p → T (le f64_min (entry m p k))
-    counts p w = float_le_trans f64_min (entry m i k) (entry m p k) (passes _ c) (passes _ (w.at_least i l u c))
+    counts p w = le_trans f64_min (entry m i k) (entry m p k) (passes _ c) (passes _ (w.at_least i l u c))
 
     clash : (p q : ℕ) → Largest size h k m p → Largest size h k m q → p < q → ⊥
     clash p q w v g =
@@ -185,20 +185,20 @@ rows_never_end_first size m =
 -- ---- clearing rows, with the pivot row read from the table at each entry, as the Rust reads it
 
 -- left[(i, j)] -= left[(h, j)] * factor, for each column from `start` on, and for the right-hand number
-abbrev pub subtract_entry_reread : ℕ → ℕ → Float → ℕ → Matrix → Matrix
-subtract_entry_reread h i factor j m = subtract_entry (row m h) i factor j m
+abbrev pub subtract_entry_anew : ℕ → ℕ → Float → ℕ → Matrix → Matrix
+subtract_entry_anew h i factor j m = subtract_entry (row m h) i factor j m
 
-abbrev pub row_subtracted_reread : ℕ → ℕ → ℕ → ℕ → Float → Matrix → Matrix
-row_subtracted_reread h size i start factor m =
-    subtract_entry_reread h i factor 20 (for_range (subtract_entry_reread h i factor) start size m)
+abbrev pub row_subtracted_anew : ℕ → ℕ → ℕ → ℕ → Float → Matrix → Matrix
+row_subtracted_anew h size i start factor m =
+    subtract_entry_anew h i factor 20 (for_range (subtract_entry_anew h i factor) start size m)
 
 -- the turn of echelon, below row h, and that of backfill, above it
-abbrev pub clear_row_reread : ℕ → ℕ → ℕ → ℕ → Matrix → Matrix
-clear_row_reread h size k i m =
-    row_subtracted_reread h size i (k + 1) (div binary64 (entry m i k) (entry m h k)) (set_entry i k f64_zero m)
+abbrev pub clear_row_anew : ℕ → ℕ → ℕ → ℕ → Matrix → Matrix
+clear_row_anew h size k i m =
+    row_subtracted_anew h size i (k + 1) (div binary64 (entry m i k) (entry m h k)) (set_entry i k f64_zero m)
 
-abbrev pub clear_row_above_reread : ℕ → ℕ → ℕ → ℕ → Matrix → Matrix
-clear_row_above_reread h size j k m = row_subtracted_reread h size k 0 (div binary64 (entry m k j) (entry m h j)) m
+abbrev pub clear_row_above_anew : ℕ → ℕ → ℕ → ℕ → Matrix → Matrix
+clear_row_above_anew h size j k m = row_subtracted_anew h size k 0 (div binary64 (entry m k j) (entry m h j)) m
 
 -- a row i that is not row h: the table's row h stays p
 module _ (p : Vector) (h i : ℕ) (other : h ≢ i) where
@@ -206,48 +206,48 @@ module _ (p : Vector) (h i : ℕ) (other : h ≢ i) where
   elsewhere j x m e = get_or-set_other m i h (set (row m i) j x) [] other ∙ e
 
   entry_alike : (factor : Float) (j : ℕ) (m : Matrix) → row m h ≡ p
-      → (subtract_entry_reread h i factor j m ≡ subtract_entry p i factor j m) × (row (subtract_entry p i factor j m) h ≡ p)
+      → (subtract_entry_anew h i factor j m ≡ subtract_entry p i factor j m) × (row (subtract_entry p i factor j m) h ≡ p)
   entry_alike factor j m e = (ap (λ (p : Vector). subtract_entry p i factor j m) e, elsewhere j _ m e)
 
   row_alike : (size start : ℕ) (factor : Float) (m : Matrix) → row m h ≡ p
-      → (row_subtracted_reread h size i start factor m ≡ row_subtracted p size i start factor m)
+      → (row_subtracted_anew h size i start factor m ≡ row_subtracted p size i start factor m)
       × (row (row_subtracted p size i start factor m) h ≡ p)
   unfolding row_subtracted
   row_alike size start factor m e =
-      let same = for_range_alike (λ j t. row t h ≡ p) (subtract_entry p i factor) (subtract_entry_reread h i factor) start size m e (λ j l u. entry_alike factor j) in
+      let same = for_range_alike (λ j t. row t h ≡ p) (subtract_entry p i factor) (subtract_entry_anew h i factor) start size m e (λ j l u. entry_alike factor j) in
       let kept = steps_keep (λ j t. row t h ≡ p) (subtract_entry p i factor) start (size - start) m e (λ j l u t e. (entry_alike factor j t e).1) in
       let last = entry_alike factor 20 (for_range (subtract_entry p i factor) start size m) kept in
-      (ap (subtract_entry_reread h i factor 20) same ∙ last.0, last.1)
+      (ap (subtract_entry_anew h i factor 20) same ∙ last.0, last.1)
 
 pub pivot_row_stays : (size h k : ℕ) (m : Matrix)
-    → for_range (clear_row_reread h size k) (h + 1) size m ≡ cleared_below size h k m
+    → for_range (clear_row_anew h size k) (h + 1) size m ≡ cleared_below size h k m
 unfolding cleared_below
-pivot_row_stays size h k m = for_range_alike (λ i t. row t h ≡ p) (clear_row p size k) (clear_row_reread h size k) (h + 1) size m refl turn
+pivot_row_stays size h k m = for_range_alike (λ i t. row t h ≡ p) (clear_row p size k) (clear_row_anew h size k) (h + 1) size m refl turn
   where
     p : Vector
     p = row m h
 
     turn : (i : ℕ) → h + 1 ≤ i → i < size → (t : Matrix) → row t h ≡ p
-        → (clear_row_reread h size k i t ≡ clear_row p size k i t) × (row (clear_row p size k i t) h ≡ p)
+        → (clear_row_anew h size k i t ≡ clear_row p size k i t) × (row (clear_row p size k i t) h ≡ p)
     turn i l u t e =
         let other : h ≢ i = λ (e : h ≡ i). omega arith in
         let factor : Vector → Float = λ p. div binary64 (entry t i k) (get_or p k nan) in
         let cleared = set_entry i k f64_zero t in
         let alike = row_alike p h i other size (k + 1) (factor p) cleared (elsewhere p h i other k f64_zero t e) in
-        (ap (λ (p : Vector). row_subtracted_reread h size i (k + 1) (factor p) cleared) e ∙ alike.0, alike.1)
+        (ap (λ (p : Vector). row_subtracted_anew h size i (k + 1) (factor p) cleared) e ∙ alike.0, alike.1)
 
 pub found_row_stays : (size i j : ℕ) (m : Matrix)
-    → for_range (clear_row_above_reread i size j) 0 i m ≡ cleared_above size i j m
+    → for_range (clear_row_above_anew i size j) 0 i m ≡ cleared_above size i j m
 unfolding cleared_above
-found_row_stays size i j m = for_range_alike (λ k t. row t i ≡ p) (clear_row_above p size j) (clear_row_above_reread i size j) 0 i m refl turn
+found_row_stays size i j m = for_range_alike (λ k t. row t i ≡ p) (clear_row_above p size j) (clear_row_above_anew i size j) 0 i m refl turn
   where
     p : Vector
     p = row m i
 
     turn : (k : ℕ) → 0 ≤ k → k < i → (t : Matrix) → row t i ≡ p
-        → (clear_row_above_reread i size j k t ≡ clear_row_above p size j k t) × (row (clear_row_above p size j k t) i ≡ p)
+        → (clear_row_above_anew i size j k t ≡ clear_row_above p size j k t) × (row (clear_row_above p size j k t) i ≡ p)
     turn k l u t e =
         let other : i ≢ k = λ (e : i ≡ k). omega arith in
         let factor : Vector → Float = λ p. div binary64 (entry t k j) (get_or p j nan) in
         let alike = row_alike p i k other size 0 (factor p) t e in
-        (ap (λ (p : Vector). row_subtracted_reread i size k 0 (factor p) t) e ∙ alike.0, alike.1)
+        (ap (λ (p : Vector). row_subtracted_anew i size k 0 (factor p) t) e ∙ alike.0, alike.1)

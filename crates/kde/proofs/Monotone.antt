@@ -12,7 +12,7 @@ use lib.ListN.{length, get_or, drop, length-drop}
 use lib.Seq.{get_or-drop, drop-drop}
 use lib.Ieee.{Float, nan, is_nan, le}
 use Rattle.floats.specs.MinMax.{max_number}
-use Rattle.floats.proofs.Order.{float_le_refl, float_le_trans, le_right, max_at_least_left, max_at_least_right, max_either}
+use Rattle.floats.proofs.Order.{le_refl, le_trans, le_right, max_ge_left, max_ge_right, max_either}
 use Rattle.kde.specs.Bins.{maximum_from, raised_from, raised}
 
 module _ (start : Float) where
@@ -27,23 +27,23 @@ module _ (start : Float) where
   maximum_falls : (bins : List Float) (k : ℕ) → T (not (is_nan (maximum_from start (drop k bins))))
       → T (le (maximum_from start (drop k bins)) (maximum_from start bins))
   unfolding maximum_from
-  maximum_falls bins zero p = float_le_refl (maximum_from start bins) p
-  maximum_falls [] (suc k) p = float_le_refl start p
+  maximum_falls bins zero p = le_refl (maximum_from start bins) p
+  maximum_falls [] (suc k) p = le_refl start p
   maximum_falls (b ∷ bins) (suc k) p =
       let m = maximum_from start bins in
       let l = maximum_falls bins k p in
-      float_le_trans (maximum_from start (drop k bins)) m (max_number m b) l (max_at_least_left m b (le_right (maximum_from start (drop k bins)) m l))
+      le_trans (maximum_from start (drop k bins)) m (max_number m b) l (max_ge_left m b (le_right (maximum_from start (drop k bins)) m l))
 
   -- at least every bin that is a number
   maximum_most : (bins : List Float) (k : ℕ) → k < length bins → T (not (is_nan (get_or bins k nan)))
       → T (le (get_or bins k nan) (maximum_from start bins))
   unfolding maximum_from
   maximum_most [] k h p = absurd (not-suc-le-zero h)
-  maximum_most (b ∷ bins) zero h p = max_at_least_right (maximum_from start bins) b p
+  maximum_most (b ∷ bins) zero h p = max_ge_right (maximum_from start bins) b p
   maximum_most (b ∷ bins) (suc k) h p =
       let m = maximum_from start bins in
       let l = maximum_most bins k (le_of_suc-le-suc h) p in
-      float_le_trans (get_or bins k nan) m (max_number m b) l (max_at_least_left m b (le_right (get_or bins k nan) m l))
+      le_trans (get_or bins k nan) m (max_number m b) l (max_ge_left m b (le_right (get_or bins k nan) m l))
 
   -- one of the bins, or the value that the walk starts from
   maximum_one : (bins : List Float)

@@ -5,7 +5,7 @@ use Rattle.std.proofs.Common.{true, false, pos, sym, ap, ◌∙◌, true≢false
 use lib.Ieee.{fin, of_bits, lt, is_nan, to_unsigned}
 use lib.Ieee.Bits.{is_true}
 use denote.Floats.{passes}
-use Rattle.floats.proofs.Order.{le_right, not_le→lt, float_lt_of_lt_of_le}
+use Rattle.floats.proofs.Order.{le_right, not_le→lt, lt_of_lt_of_le}
 use Rattle.floats.proofs.Convert.{convert_above, convert_max_half, from_half, half_below}
 use Rattle.floats.proofs.f64_to_u64.Goals as goal
 
@@ -18,7 +18,7 @@ unfolding of_bits lt is_nan
 truncating_f64_to_u64-requires c =
     let x = c.args.x in
     let from = passes _ c.if-x.true in
-    let last = fin false 1 (pos 53) in record { lower_bound = float_lt_of_lt_of_le (fin true 1 (pos 0)) last x tt from; upper_bound = not_le→lt x (fin false 1 (pos 64)) (le_right last x from) tt (λ t. true≢false (sym (is_true _ t) ∙ c.if-x-2.false)) }
+    let last = fin false 1 (pos 53) in record { lower_bound = lt_of_lt_of_le (fin true 1 (pos 0)) last x tt from; upper_bound = not_le→lt x (fin false 1 (pos 64)) (le_right last x from) tt (λ t. true≢false (sym (is_true _ t) ∙ c.if-x-2.false)) }
 
 pub whole_part-requires : goal.whole_part-requires
 unfolding of_bits
