@@ -35,7 +35,7 @@ lint: layout prepare lib ## line widths and words of all sources, the Rust's lay
 	cd host && $(CLIPPY) -- -D warnings
 	cd compare && $(CLIPPY) --offline -- -D warnings
 
-# the part of lint that neither builds nor proves anything; `rt ci` itself refuses Rattle that `rt fmt` lays out otherwise
+# the part of lint that neither builds nor proves anything; `rt ci` refuses Rattle that `rt fmt` would lay out otherwise
 layout: need-cargo
 	cd host && cargo fmt --all --check
 	cd compare && cargo fmt --check
