@@ -64,7 +64,7 @@ run: need-cargo lib ## two sample batches, made and rescored: one succeeds, and 
 	cd host && cargo build --quiet --release
 	@host/run-sample
 
-mutants: need-python3 ## wrong programs, which the prover must refuse; an hour or more
+mutants: need-python3 ## wrong programs, which the prover must refuse; some hours
 	mutants/run
 
 prepare: need-cargo ## what compare and bench need: Debian's packaged crates, and sage's files, checked
