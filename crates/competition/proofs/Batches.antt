@@ -65,7 +65,8 @@ another a b t w h l s k = batch_accepted b t (record {
 })
 
 -- two accepted calls are one, if the appended columns are not too long
-pub joined_calls : (a b : Batch) (t : Table) → batch_asked a t ≡ Accepted → batch_asked b (add_rows a t).table ≡ Accepted
+pub joined_calls : (a b : Batch) (t : Table) → batch_asked a t ≡ Accepted
+    → batch_asked b (add_rows a t).table ≡ Accepted
     → length (appended a b).slots ≤ longest
     → (batch_asked (appended a b) t ≡ Accepted) × (add_rows (appended a b) t ≡ add_rows b (add_rows a t).table)
 joined_calls a b t p q h =

@@ -61,13 +61,16 @@ asked_by_lengths b w = rw (w.forward, w.reverse, w.forward_seen, w.reverse_seen)
 
 -- each side that t has seen, u has seen
 pub record KeepsSeen (t u : Table) : Type 0 where
-  pub forward : (slot : ℕ) → is_seen (get_or t.forward_seen slot 0) ≡ true → is_seen (get_or u.forward_seen slot 0) ≡ true
-  pub reverse : (slot : ℕ) → is_seen (get_or t.reverse_seen slot 0) ≡ true → is_seen (get_or u.reverse_seen slot 0) ≡ true
+  pub forward : (slot : ℕ) → is_seen (get_or t.forward_seen slot 0) ≡ true
+      → is_seen (get_or u.forward_seen slot 0) ≡ true
+  pub reverse : (slot : ℕ) → is_seen (get_or t.reverse_seen slot 0) ≡ true
+      → is_seen (get_or u.reverse_seen slot 0) ≡ true
 
 pub keeps_refl : {t : Table} → KeepsSeen t t
 keeps_refl = record { forward = λ slot e. e; reverse = λ slot e. e }
 
-mark_stays : (marks : List ℕ) (s k : ℕ) → is_seen (get_or marks k 0) ≡ true → is_seen (get_or (set marks s 1) k 0) ≡ true
+mark_stays : (marks : List ℕ) (s k : ℕ) → is_seen (get_or marks k 0) ≡ true
+    → is_seen (get_or (set marks s 1) k 0) ≡ true
 mark_stays [] s k e = e
 mark_stays (m ∷ ms) zero zero e = refl
 mark_stays (m ∷ ms) zero (suc k) e = e

@@ -93,7 +93,8 @@ module _ (rate : ℕ) (labels : List ℤ) where
       ]
 
 -- targets may have any other target numbers
-pub same_line : (rate : ℕ) (ls ls' : List ℤ) → map is_decoy ls ≡ map is_decoy ls' → right_line rate ls ≡ right_line rate ls'
+pub same_line : (rate : ℕ) (ls ls' : List ℤ) → map is_decoy ls ≡ map is_decoy ls'
+    → right_line rate ls ≡ right_line rate ls'
 unfolding last_row_of
 same_line rate ls ls' e = rw (same_length ls ls' e) (go (length ls'))
   where

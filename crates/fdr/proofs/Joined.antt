@@ -120,7 +120,8 @@ pub record Packs (bins : List Float) (t : Table) (slots : List ℕ) (labels : Li
 pub record Ranks (settings : Settings) (bins : List Float) (t : Table) (keys spare : List ℕ) (count : ℕ)
     (keys₁ spare₁ : List ℕ) : Type 0 where
   pub count_is : count
-      ≡ targets_at_most (one_in 100) (map label_of (sorted keys)) (side_q settings bins (map (key_side t) (sorted keys)))
+      ≡ targets_at_most (one_in 100) (map label_of (sorted keys))
+      (side_q settings bins (map (key_side t) (sorted keys)))
   pub keys_are : keys₁ ≡ with_numbers (side_q settings bins (map (key_side t) (sorted keys))) (sorted keys)
   pub same_keys : length keys₁ ≡ length keys
   pub same_spare : length spare₁ ≡ length spare
@@ -137,7 +138,8 @@ pub packs : (bins : List Float) {t : Table} {slots : List ℕ} (labels : List �
 packs bins labels keys₀ spare₀ q₀ keys₁ a f r h s k =
     record { ready = a; forward_fit = f; reverse_fit = r; few = h; same = s; front = k }
 
-pub ranks : (settings : Settings) (bins : List Float) (t : Table) (keys spare : List ℕ) {count : ℕ} (keys₁ spare₁ : List ℕ)
+pub ranks : (settings : Settings) (bins : List Float) (t : Table) (keys spare : List ℕ) {count : ℕ}
+    (keys₁ spare₁ : List ℕ)
     → count
     ≡ targets_at_most (one_in 100) (map label_of (sorted keys)) (side_q settings bins (map (key_side t) (sorted keys)))
     → keys₁ ≡ with_numbers (side_q settings bins (map (key_side t) (sorted keys))) (sorted keys)

@@ -39,7 +39,8 @@ number_bits q h = record {
 -- ---- ratios are of the format, so that their minima, and ratios of at most 1.0, can be written
 
 module _ (settings : Settings) (bins : List Float) where
-  pub ratios_fit : (sum : Float) (targets : ℕ) (sides : List Side) → AllF32 (ratios_from settings bins sum targets sides)
+  pub ratios_fit : (sum : Float) (targets : ℕ) (sides : List Side)
+      → AllF32 (ratios_from settings bins sum targets sides)
   unfolding ratios_from
   ratios_fit sum targets [] = tt
   ratios_fit sum targets (s ∷ ss) = (div-fits binary32 _ _, ratios_fit (add binary32 sum (error_of settings bins s.score)) _ ss)

@@ -33,7 +33,8 @@ use Rattle.fdr.proofs.Numbers.{length_ratios}
 -- ---- the q-values of ranked rows never fall down their list
 
 pub q_rises : (settings : Settings) (bins : List Float) (t : Table) (i : ℕ) → i + 1 < length (ranked_sides t)
-    → T (le (get_or (side_q settings bins (ranked_sides t)) i nan) (get_or (side_q settings bins (ranked_sides t)) (i + 1) nan))
+    → T (le (get_or (side_q settings bins (ranked_sides t)) i nan)
+    (get_or (side_q settings bins (ranked_sides t)) (i + 1) nan))
 unfolding side_q
 q_rises settings bins t i h =
     rw add-one (running_minimum_rise (ratios_from settings bins f32_one 0 (ranked_sides t)) i (omega (arith, length_ratios settings bins f32_one 0 (ranked_sides t))))
@@ -51,7 +52,8 @@ abbrev pub from_one : Names → Settings
 from_one names = record { names = names; estimator = estimator (fin false 1 (pos 0)) (fin false 1 (pos 0)) }
 
 abbrev pub two_targets : Table
-two_targets = table_of (fin false 1 (pos 1) ∷ fin false 1 (pos 0) ∷ []) (f32_min ∷ f32_min ∷ []) (1 ∷ 1 ∷ []) (0 ∷ 0 ∷ [])
+two_targets = table_of (fin false 1 (pos 1) ∷ fin false 1 (pos 0) ∷ []) (f32_min ∷ f32_min ∷ []) (1 ∷ 1 ∷ [])
+    (0 ∷ 0 ∷ [])
 
 pub two_targets_lem : (names : Names) (a b c d e f g h : ℕ) (x y : Float)
     → assign_q_value (from_one names) halves two_targets (0 ∷ 1 ∷ []) (pos 1 ∷ pos 1 ∷ []) (a ∷ b ∷ c ∷ d ∷ [])

@@ -57,7 +57,8 @@ assign_asked t bins slots labels keys spare q =
 
 -- every row's q-value, and how many targets pass; a refusal leaves NaN. Working columns "hold 0 in every place
 -- afterwards, accepted or refused"
-unfoldable pub assign_q_value : Settings → List Float → Table → List ℕ → List ℤ → List ℕ → List ℕ → List Float → RankedRun
+unfoldable pub assign_q_value : Settings → List Float → Table → List ℕ → List ℤ → List ℕ → List ℕ → List Float
+    → RankedRun
 unfolding all_allowed passing rows_q
 assign_q_value settings bins t slots labels keys spare q =
     answered (assign_asked t (length bins) slots (length labels) (length keys) (length spare) (length q))

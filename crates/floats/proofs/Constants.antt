@@ -32,7 +32,8 @@ one_fits = of_bits-fits binary32 0x3F800000
 
 -- ---- where a is at most 1.0, what stands beside it may be held to 1.0 first
 
-pub min_capped : (a r : Float) → T (not (is_nan a)) → T (le a f32_one) → min_number a (min_number f32_one r) ≡ min_number a r
+pub min_capped : (a r : Float) → T (not (is_nan a)) → T (le a f32_one)
+    → min_number a (min_number f32_one r) ≡ min_number a r
 min_capped a r n h =
     ap (min_number a) (min_of_number f32_one r one_number)
     ∙ go (lt r f32_one) (λ t. lt_of_lt_of_le r a f32_one t h)

@@ -117,7 +117,8 @@ module _ (w : ℕ) where
   under_div f (fin false n d) (some {s} {m} {e}) p = go (eqb n 0) (eqb (suc m) 0)
     where
       go : (a b : Bool)
-          → to_unsigned w (cond a (cond b nan (inf true)) (round f true (suc m * up e * down d) (n * up d * down e))) ≡ 0
+          → to_unsigned w (cond a (cond b nan (inf true)) (round f true (suc m * up e * down d) (n * up d * down e)))
+          ≡ 0
       go true true = refl
       go true false = refl
       go false b =

@@ -40,7 +40,8 @@ unfolding folded
 passed f e m [] r = ap (λ (x : Float). folded f x r) (e m)
 passed f e m (x ∷ l) r = passed f e (f m x) l r
 
-pub least_passes_nan : (m : Float) (l r : List Float) → folded min_number m (l ++ nan ∷ r) ≡ folded min_number m (l ++ r)
+pub least_passes_nan : (m : Float) (l r : List Float)
+    → folded min_number m (l ++ nan ∷ r) ≡ folded min_number m (l ++ r)
 least_passes_nan = passed min_number min_nan
 
 pub greatest_passes_nan : (m : Float) (l r : List Float)

@@ -87,7 +87,8 @@ field_lt (fin false m e) h k p t =
     let N = units_of binary64 m e in
     rw (exponent m e) (omega (arith, (place_of_lem N (stays false m e h t)).most))
 
-pub sum_rounds : (x w : Float) → T (fits binary64 x) → T (not (is_nan x)) → negative x ≡ false → le narrow_limit x ≡ false
+pub sum_rounds : (x w : Float) → T (fits binary64 x) → T (not (is_nan x)) → negative x ≡ false
+    → le narrow_limit x ≡ false
     → w ≡ unit_at (max 897 (to_bits binary64 x / 4503599627370496))
     → sub binary64 (add binary64 x w) w ≡ converted binary32 x
 unfolding converted le is_nan of_bits

@@ -68,7 +68,8 @@ loss_mul false a c = sym (zero-mul c)
 
 -- three differences over denominators: (p - n) / c ≤ (p' - n') / c' ≤ (p'' - n'') / c''
 through : (p n c p' n' c' p'' n'' c'' : ℕ) → 0 < c'
-    → p * c' + n' * c ≤ p' * c + n * c' → p' * c'' + n'' * c' ≤ p'' * c' + n' * c'' → p * c'' + n'' * c ≤ p'' * c + n * c''
+    → p * c' + n' * c ≤ p' * c + n * c' → p' * c'' + n'' * c' ≤ p'' * c' + n' * c''
+    → p * c'' + n'' * c ≤ p'' * c + n * c''
 through p n c p' n' c' p'' n'' c'' C h k =
     let h' = simp (add-mul, mul_assoc, mul_comm) at (mul-le-mul_right c'' h) in
     let k' = simp (add-mul, mul_assoc, mul_comm, mul_left_comm) at (mul-le-mul_right c k) in

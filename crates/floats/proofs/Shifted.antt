@@ -59,7 +59,8 @@ module _ (b n : ℕ) (least : 1074 ≤ size n) (most : size n ≤ 1127)
 pub record ShiftedDigits (x : Float) : Type 0 where
   pub least : 1022 ≤ to_bits binary64 x / 4503599627370496
   pub most : to_bits binary64 x / 4503599627370496 ≤ 1075
-  pub is : (to_bits binary64 x % 4503599627370496 + 4503599627370496) / 2 ^ (1075 - to_bits binary64 x / 4503599627370496)
+  pub is : (to_bits binary64 x % 4503599627370496 + 4503599627370496) / 2 ^
+      (1075 - to_bits binary64 x / 4503599627370496)
       ≡ to_unsigned 64 x
 
 uncapped : (n : ℕ) → n < 2 ^ 53 → min n (2 ^ 64 - 1) ≡ n

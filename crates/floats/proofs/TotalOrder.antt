@@ -172,7 +172,8 @@ fin_orders f m e n d p q =
     ∙ sym (rw (and-false, or-false))
 
 -- the bits of a finite value are below an infinity's, and those below the NaN's
-fin_below : (f : Format) (m : ℕ) (e : ℤ) → T (fits f (fin false m e)) → to_bits f (fin false m e) < to_bits f (inf false)
+fin_below : (f : Format) (m : ℕ) (e : ℤ) → T (fits f (fin false m e))
+    → to_bits f (fin false m e) < to_bits f (inf false)
 unfolding to_bits
 fin_below f m e p =
     let n = units_of f m e in

@@ -93,7 +93,8 @@ pub record Cut (f : Format) (x : Float) (z : ℤ) : Type 0 where
   pub exact : T (in_float f z)
   pub same : eq (of_int f z) x ≡ true → x ≡ floored f x
   pub less : lt (of_int f z) x ≡ true → of_int f z ≡ floored f x
-  pub more : eq (of_int f z) x ≡ false → lt (of_int f z) x ≡ false → sub f (of_int f z) (fin false 1 (pos 0)) ≡ floored f x
+  pub more : eq (of_int f z) x ≡ false → lt (of_int f z) x ≡ false
+      → sub f (of_int f z) (fin false 1 (pos 0)) ≡ floored f x
 
 abbrev signed : Bool → ℕ → ℤ
 signed s q = cond s (neg_ℤ (pos q)) (pos q)

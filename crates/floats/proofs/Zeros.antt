@@ -70,7 +70,8 @@ module _ (f : Format) where
   right_is s m e t = add_is f s m e t 0 (pos 0) ∙ rw (mul-one, zero-mul, mul-one)
 
   plus_zero_add_fin : (s : Bool) (n : ℕ) (d : ℤ) → T (fits f (fin s n d))
-      → (add f plus_zero (fin s n d) ≡ fin s n d) ⊎ ((fin s n d ≡ minus_zero) × (add f plus_zero (fin s n d) ≡ plus_zero))
+      → (add f plus_zero (fin s n d) ≡ fin s n d)
+      ⊎ ((fin s n d ≡ minus_zero) × (add f plus_zero (fin s n d) ≡ plus_zero))
   plus_zero_add_fin s (suc n) d t = inl (left_is s (suc n) d ∙ sum_plus_zero f false s (suc n * up d) (down d) (size_pos n d) ∙ round_self f s (suc n) d t)
   plus_zero_add_fin false zero d t = inl (left_is false 0 d ∙ rw zero-mul (sum_zeros f false false (down d) (down_pos d)) ∙ sym (one_zero f false d t))
   plus_zero_add_fin true zero d t = inr (one_zero f true d t, left_is true 0 d ∙ rw zero-mul (sum_zeros f false true (down d) (down_pos d)))
@@ -168,7 +169,8 @@ plus_zero_lt (fin true m e) t = lt→ltb 0 (m * up e * 1 + 0 * down e) (omega (a
 -- ---- 0 + y is y but for its sign where it is −0, and that is lost in x − y for an x below y
 
 -- a zero of either sign, taken from a number that is none
-minus_either_zero : (f : Format) (x : Float) → T (fits f x) → T (lt x minus_zero) → sub f x plus_zero ≡ sub f x minus_zero
+minus_either_zero : (f : Format) (x : Float) → T (fits f x) → T (lt x minus_zero)
+    → sub f x plus_zero ≡ sub f x minus_zero
 unfolding sub neg lt
 minus_either_zero f nan t h = absurd h
 minus_either_zero f (inf s) t h = refl

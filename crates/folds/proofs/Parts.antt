@@ -19,7 +19,8 @@ module _ {A : Type 0} (d : A) where
   pub slice_head : (p q : ℕ) (s : List A) → p < q → q ≤ length s → slice p q s ≡ get_or s p d ∷ slice (p + 1) q s
   slice_head p q s h k = rw (add-one p) (slice-cons p q s d h k)
 
-  pub slice_last : (p q : ℕ) (s : List A) → p ≤ q → q < length s → slice p (q + 1) s ≡ slice p q s ++ (get_or s q d ∷ [])
+  pub slice_last : (p q : ℕ) (s : List A) → p ≤ q → q < length s
+      → slice p (q + 1) s ≡ slice p q s ++ (get_or s q d ∷ [])
   slice_last p q s h k =
       let l = length-take-le q s (omega arith) in
       rw (add-one q, take-suc s q d k) (drop-append-le p (take q s) (get_or s q d ∷ []) (omega arith))

@@ -16,7 +16,8 @@ module _ {A : Type 0} (f : ℕ → A) where
   abbrev pub store : ℕ → List A → List A
   store i column = set column i (f i)
 
-  steps_past : (d : A) (i a k : ℕ) (column : List A) → a + k ≤ i → get_or (steps store a k column) i d ≡ get_or column i d
+  steps_past : (d : A) (i a k : ℕ) (column : List A) → a + k ≤ i
+      → get_or (steps store a k column) i d ≡ get_or column i d
   unfolding steps
   steps_past d i a zero column h = refl
   steps_past d i a (suc k) column h =

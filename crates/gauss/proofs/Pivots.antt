@@ -206,7 +206,8 @@ module _ (p : Vector) (h i : ℕ) (other : h ≢ i) where
   elsewhere j x m e = get_or-set_other m i h (set (row m i) j x) [] other ∙ e
 
   entry_alike : (factor : Float) (j : ℕ) (m : Matrix) → row m h ≡ p
-      → (subtract_entry_anew h i factor j m ≡ subtract_entry p i factor j m) × (row (subtract_entry p i factor j m) h ≡ p)
+      → (subtract_entry_anew h i factor j m ≡ subtract_entry p i factor j m)
+      × (row (subtract_entry p i factor j m) h ≡ p)
   entry_alike factor j m e = (ap (λ (p : Vector). subtract_entry p i factor j m) e, elsewhere j _ m e)
 
   row_alike : (size start : ℕ) (factor : Float) (m : Matrix) → row m h ≡ p
@@ -245,7 +246,8 @@ found_row_stays size i j m = for_range_alike (λ k t. row t i ≡ p) (clear_row_
     p = row m i
 
     turn : (k : ℕ) → 0 ≤ k → k < i → (t : Matrix) → row t i ≡ p
-        → (clear_row_above_anew i size j k t ≡ clear_row_above p size j k t) × (row (clear_row_above p size j k t) i ≡ p)
+        → (clear_row_above_anew i size j k t ≡ clear_row_above p size j k t)
+        × (row (clear_row_above p size j k t) i ≡ p)
     turn k l u t e =
         let other : i ≢ k = λ (e : i ≡ k). omega arith in
         let factor : Vector → Float = λ p. div binary64 (entry t k j) (get_or p j nan) in

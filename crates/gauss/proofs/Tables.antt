@@ -25,6 +25,7 @@ module _ (size k h : ℕ) (m : Matrix) {i : ℕ} (pivot : i ≡ pivot_row size h
   pub skipped : eq (entry m i k) f64_zero ≡ true → (h, m) ≡ echelon_column size k (h, m)
   skipped = column_is true
 
-  pub pivoted : {m₁ m₂ : Matrix} → eq (entry m i k) f64_zero ≡ false → m₁ ≡ swapped h i m → m₂ ≡ cleared_below size h k m₁
+  pub pivoted : {m₁ m₂ : Matrix} → eq (entry m i k) f64_zero ≡ false → m₁ ≡ swapped h i m
+      → m₂ ≡ cleared_below size h k m₁
       → (h + 1, m₂) ≡ echelon_column size k (h, m)
   pivoted e s c = ap (λ (t : Matrix). (h + 1, t)) (c ∙ ap (cleared_below size h k) s) ∙ column_is false e

@@ -72,7 +72,8 @@ subtract_entry p i factor j m = set_entry i j (sub binary64 (entry m i j) (mul b
 
 -- that for each column from `start` on, and for the right-hand number
 unfoldable pub row_subtracted : Vector → ℕ → ℕ → ℕ → Float → Matrix → Matrix
-row_subtracted p size i start factor m = subtract_entry p i factor 20 (for_range (subtract_entry p i factor) start size m)
+row_subtracted p size i start factor m =
+    subtract_entry p i factor 20 (for_range (subtract_entry p i factor) start size m)
 
 -- a row i below the pivot row p: factor = left[(i, k)] / left[(h, k)], left[(i, k)] = 0.0, and the columns from k + 1
 -- on

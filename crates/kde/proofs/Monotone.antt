@@ -47,7 +47,8 @@ module _ (start : Float) where
 
   -- one of the bins, or the value that the walk starts from
   maximum_one : (bins : List Float)
-      → (maximum_from start bins ≡ start) ⊎ ((k : ℕ) × (k < length bins) × (maximum_from start bins ≡ get_or bins k nan))
+      → (maximum_from start bins ≡ start)
+      ⊎ ((k : ℕ) × (k < length bins) × (maximum_from start bins ≡ get_or bins k nan))
   unfolding maximum_from
   maximum_one [] = inl refl
   maximum_one (b ∷ bins) = elim (max_either (maximum_from start bins) b) [

@@ -31,7 +31,8 @@ record Passed (rows : ℕ) (match : Bool) (bins : ℕ) : Type 0 where
   range : (1 ≤ bins) × (bins ≤ 65536)
 
 passed : (rows : ℕ) (match : Bool) (bins : ℕ)
-    → if_not (leb rows longest) TooLong (if_not match WrongLength (if_not (in_range bins) OutOfRange Accepted)) ≡ Accepted
+    → if_not (leb rows longest) TooLong (if_not match WrongLength (if_not (in_range bins) OutOfRange Accepted))
+    ≡ Accepted
     → Passed rows match bins
 passed rows match bins e =
     let first = met (leb rows longest) TooLong _ e in

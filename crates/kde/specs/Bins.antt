@@ -69,7 +69,8 @@ bin_scores_run answer bin_scores = record { answer = answer; bin_scores = bin_sc
 -- questions 1, 2 and 3, of a bin count, a list of scores and a column of bin scores
 abbrev pub bin_scores_asked : ℕ → ℕ → ℕ → Outcome
 bin_scores_asked bins scores column =
-    if_not (leb scores longest) TooLong (if_not (eqb column bins) WrongLength (if_not (in_range bins) OutOfRange Accepted))
+    if_not (leb scores longest) TooLong
+    (if_not (eqb column bins) WrongLength (if_not (in_range bins) OutOfRange Accepted))
 
 -- the estimator, and the score of every bin; a refusal leaves NaN in every place
 unfoldable pub bin_scores_of : Builder → List Float → List Float → BinScoresRun

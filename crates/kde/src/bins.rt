@@ -1,7 +1,8 @@
 // Builder::build in two steps: the scores of the bins, at which the host takes its two densities, and the bins.
 ghost use Rattle.std.specs.Prelude.{◌≡◌, ◌≤◌, eqb, length};
 ghost use Rattle.folds.specs.Lists.{tabulated, how_many};
-ghost use Rattle.kde.specs.Bins.{least_score, greatest_score, bin_score, bin_scores_asked, bin_scores_run, bin_scores_of};
+ghost use Rattle.kde.specs.Bins.{least_score, greatest_score, bin_score};
+ghost use Rattle.kde.specs.Bins.{bin_scores_asked, bin_scores_run, bin_scores_of};
 ghost use Rattle.kde.specs.Bins.{posterior_bin, raised, bins_of, bins_asked, column_run, label_bins, slot_bins};
 ghost use Rattle.kde.specs.Inner.BinsReady.{BinsReady};
 

@@ -28,7 +28,8 @@ module _ (w : ℕ) (kept : Matrix) (j start : ℕ) (table : Matrix) where
       go false x = refl
 
   pub accumulated_more : (g : ℕ) {a₀ a : Vector} → a₀ ≡ accumulated w kept g j start table
-      → a ≡ tabulated (λ d. cond (ltb d w) (add_kept_product j (start + d) (row kept g) (get_or a₀ d nan)) (get_or a₀ d nan))
+      → a ≡ tabulated (λ d. cond (ltb d w) (add_kept_product j (start + d) (row kept g) (get_or a₀ d nan))
+      (get_or a₀ d nan))
       0 12
       → a ≡ accumulated w kept (g + 1) j start table
   unfolding accumulated
@@ -59,7 +60,8 @@ pair_done w kept j table g m h l p q =
 
 pub kept_added_lem : (kept : Matrix) (m : ℕ) (f : ℕ → ℕ → Float)
     → kept_added kept m (half_table f)
-    ≡ half_table (λ j d. cond (ltb d (stored_width j)) (for_range (λ g. add_kept_product j (2 * (j / 2) + d) (row kept g)) 0
+    ≡ half_table (λ j d. cond (ltb d (stored_width j))
+    (for_range (λ g. add_kept_product j (2 * (j / 2) + d) (row kept g)) 0
     m (f j d)) (f j d))
 unfolding kept_added pair_added accumulated steps tabulated
 kept_added_lem kept m f = refl

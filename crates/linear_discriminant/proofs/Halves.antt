@@ -73,7 +73,8 @@ column_at j k h l n =
     (every_at (λ k. not (has j k) || eqb (stored_column j (stored_place j k)) k) 20 k
     (every_at (λ j. every (λ k. not (has j k) || eqb (stored_column j (stored_place j k)) k) 20) 20 j right_column h) l)
   where
-    go : (b : Bool) → T b → T (not b || eqb (stored_column j (stored_place j k)) k) → stored_column j (stored_place j k) ≡ k
+    go : (b : Bool) → T b → T (not b || eqb (stored_column j (stored_place j k)) k)
+        → stored_column j (stored_place j k) ≡ k
     go true t e = eqb→eq (stored_column j (stored_place j k)) k e
     go false t e = absurd t
 

@@ -148,19 +148,23 @@ module _ {labels : List ℤ} {r : ℕ → ℕ → Vector} {state : ℕ → ℕ �
 
   -- an entry of a list after a store at c, mine or the other's
   module _ (tables' kept' : List Matrix) (filled' : List ℕ) where
-    each : Kept (in_class labels c) (r c) (state c) (get_or tables' c []) (get_or kept' c []) (get_or filled' c 0) (i + 1)
+    each : Kept (in_class labels c) (r c) (state c) (get_or tables' c []) (get_or kept' c []) (get_or filled' c 0)
+        (i + 1)
         → ((d : ℕ) → (d ≡ c → ⊥) → get_or tables' d [] ≡ get_or tables d [])
         → ((d : ℕ) → (d ≡ c → ⊥) → get_or kept' d [] ≡ get_or kept d [])
         → ((d : ℕ) → (d ≡ c → ⊥) → get_or filled' d 0 ≡ get_or filled d 0) → (d : ℕ) → d < 2
-        → Kept (in_class labels d) (r d) (state d) (get_or tables' d []) (get_or kept' d []) (get_or filled' d 0) (i + 1)
+        → Kept (in_class labels d) (r d) (state d) (get_or tables' d []) (get_or kept' d []) (get_or filled' d 0)
+        (i + 1)
     each s t k f d h = go (lt_or_ge d c) (lt_or_ge c d)
       where
         other : (d ≡ c → ⊥)
-            → Kept (in_class labels d) (r d) (state d) (get_or tables' d []) (get_or kept' d []) (get_or filled' d 0) (i + 1)
+            → Kept (in_class labels d) (r d) (state d) (get_or tables' d []) (get_or kept' d []) (get_or filled' d 0)
+            (i + 1)
         other p = rw (t d p, k d p, f d p) (kept_skip (w.each_class d h) (theirs d p))
 
         go : (d < c) ⊎ (c ≤ d) → (c < d) ⊎ (d ≤ c)
-            → Kept (in_class labels d) (r d) (state d) (get_or tables' d []) (get_or kept' d []) (get_or filled' d 0) (i + 1)
+            → Kept (in_class labels d) (r d) (state d) (get_or tables' d []) (get_or kept' d []) (get_or filled' d 0)
+            (i + 1)
         go (inl a) b = other (λ e. omega arith)
         go (inr a) (inl b) = other (λ e. omega arith)
         go (inr a) (inr b) =

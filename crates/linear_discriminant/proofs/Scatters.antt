@@ -89,7 +89,8 @@ module _ (features : List Float) (labels : List ℤ) (mean : List Float) (c : �
           ∙ for_range_join (add_taken (in_class labels c) (centred_product features mu j (stored_column j d))) 0 a b f64_zero zero-le h
 
       at : (j d : ℕ) → j < 20 → (t : Bool) → ltb d (stored_width j) ≡ t
-          → cond t (for_range (λ g. add_kept_product j (2 * (j / 2) + d) (row rows g)) 0 m (cond t (sums j d a) f64_zero))
+          → cond t (for_range (λ g. add_kept_product j (2 * (j / 2) + d) (row rows g)) 0 m
+          (cond t (sums j d a) f64_zero))
           (cond t (sums j d a) f64_zero)
           ≡ cond t (sums j d b) f64_zero
       at j d l true e = run j d l (ltb-true d (stored_width j) e)

@@ -33,7 +33,8 @@ module _ (features : List Float) (labels : List ℤ) where
   abbrev pub sum_table : ℕ → Matrix
   sum_table n = tabulated (λ c. tabulated (class_sum c n) 0 20) 0 2
 
-  next : (c n j : ℕ) → class_sum c (n + 1) j ≡ add_taken (in_class labels c) (λ i. feature features i j) n (class_sum c n j)
+  next : (c n j : ℕ) → class_sum c (n + 1) j
+      ≡ add_taken (in_class labels c) (λ i. feature features i j) n (class_sum c n j)
   unfolding summed
   next c n j = for_range_last (add_taken (in_class labels c) (λ i. feature features i j)) 0 n f64_zero zero-le
 

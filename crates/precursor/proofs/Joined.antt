@@ -57,7 +57,8 @@ module _ (labels : List ℤ) (scores : List Float) (keys₀ spare₀ : List ℕ)
       → q ≡ scattered (map place_of keys) (q_values (map label_of keys)) q₀
       → length spare ≡ length spare₀
       → ranked_run (Passing passing) (filled 0 keys) (filled 0 spare) q
-      ≡ ranked_run (Passing (targets_at_most (one_in 20) (as_ranked labels scores) (q_values (as_ranked labels scores))))
+      ≡ ranked_run (Passing (targets_at_most (one_in 20) (as_ranked labels scores)
+      (q_values (as_ranked labels scores))))
       (filled 0 keys₀) (filled 0 spare₀) (precursor_q labels scores)
   unfolding precursor_q
   picked q₀ l m passing q spare c d s =

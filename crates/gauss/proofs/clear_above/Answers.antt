@@ -1,5 +1,5 @@
--- `gauss::clear_above` meets its contract. The loop is the walk of `cleared_above` over the rows above i; the measure is
--- what is left of them.
+-- `gauss::clear_above` meets its contract. The loop is the walk of `cleared_above` over the rows above i; the measure
+-- is what is left of them.
 use Rattle.folds.proofs.Walks.{start, step_by, done}
 use Rattle.gauss.specs.Elimination.{cleared_above}
 use borrow.Author.Rules.{rules}

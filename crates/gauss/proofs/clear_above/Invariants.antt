@@ -1,5 +1,5 @@
--- `gauss::clear_above` meets its contract. The loop is the walk of `cleared_above` over the rows above i; the measure is
--- what is left of them.
+-- `gauss::clear_above` meets its contract. The loop is the walk of `cleared_above` over the rows above i; the measure
+-- is what is left of them.
 use Prim.Native.Nat.{◌-◌}
 use Rattle.folds.proofs.Walks.{Walk}
 use Rattle.gauss.specs.Elimination.{clear_row_above}

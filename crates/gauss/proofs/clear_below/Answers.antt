@@ -1,5 +1,5 @@
--- `gauss::clear_below` meets its contract. The loop is the walk of `cleared_below` over the rows below h; the measure is
--- what is left of the size.
+-- `gauss::clear_below` meets its contract. The loop is the walk of `cleared_below` over the rows below h; the measure
+-- is what is left of the size.
 use Rattle.folds.proofs.Walks.{start, step_by, done}
 use Rattle.gauss.specs.Elimination.{cleared_below}
 use borrow.Author.Rules.{rules}

@@ -106,7 +106,8 @@ scatter_of table j k =
 
 abbrev pub within_at : Matrix → Matrix → Float → Float → ℕ → ℕ → Float
 within_at decoy target d t j k =
-    add binary64 (add binary64 f64_zero (div binary64 (scatter_of decoy j k) d)) (div binary64 (scatter_of target j k) t)
+    add binary64 (add binary64 f64_zero (div binary64 (scatter_of decoy j k) d))
+    (div binary64 (scatter_of target j k) t)
 
 unfoldable pub within_row : Matrix → Matrix → Float → Float → ℕ → Vector
 within_row decoy target d t j = tabulated (within_at decoy target d t j) 0 20

@@ -8,7 +8,8 @@ use Rattle.competition.proofs.batch.add_all.Given as goal
 
 abbrev pub invariant-loop-i : goal.invariant-loop-i
 invariant-loop-i l =
-    Adding (batch_of l.slots l.labels l.scores) (table_of l.initial.forward l.initial.reverse l.initial.forward_seen l.initial.reverse_seen)
+    Adding (batch_of l.slots l.labels l.scores)
+    (table_of l.initial.forward l.initial.reverse l.initial.forward_seen l.initial.reverse_seen)
     (table_of l.forward l.reverse l.forward_seen l.reverse_seen) l.i
 
 abbrev pub decreases-loop-i : goal.decreases-loop-i

@@ -8,7 +8,8 @@ use Rattle.kde.specs.Bins.{posterior_bin}
 use Rattle.kde.proofs.bins.mix.Given as goal
 
 abbrev pub invariant-loop-bin : goal.invariant-loop-bin
-invariant-loop-bin l = Writing (posterior_bin l.pi l.decoy_density l.target_density) nan (length l.initial.bins) l.bins l.bin
+invariant-loop-bin l = Writing (posterior_bin l.pi l.decoy_density l.target_density) nan
+    (length l.initial.bins) l.bins l.bin
 
 abbrev pub decreases-loop-bin : goal.decreases-loop-bin
 decreases-loop-bin l = length l.initial.bins - l.bin

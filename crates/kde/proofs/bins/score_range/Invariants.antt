@@ -8,7 +8,8 @@ use Rattle.folds.proofs.Folds.{Folding}
 use Rattle.kde.proofs.bins.score_range.Given as goal
 
 abbrev pub invariant-loop-i : goal.invariant-loop-i
-invariant-loop-i l = Folding min_number f64_max l.scores l.i l.min_score × Folding max_number (neg f64_max) l.scores l.i l.max_score
+invariant-loop-i l = Folding min_number f64_max l.scores l.i l.min_score
+    × Folding max_number (neg f64_max) l.scores l.i l.max_score
 
 abbrev pub decreases-loop-i : goal.decreases-loop-i
 decreases-loop-i l = length l.scores - l.i

@@ -8,7 +8,8 @@ use Rattle.kde.specs.Bins.{bin_score}
 use Rattle.kde.proofs.bins.write_bin_scores.Given as goal
 
 abbrev pub invariant-loop-bin : goal.invariant-loop-bin
-invariant-loop-bin l = Writing (bin_score (record { min_score = l.min_score; score_step = l.score_step })) nan (length l.initial.bin_scores) l.bin_scores l.bin
+invariant-loop-bin l = Writing (bin_score (record { min_score = l.min_score; score_step = l.score_step })) nan
+    (length l.initial.bin_scores) l.bin_scores l.bin
 
 abbrev pub decreases-loop-bin : goal.decreases-loop-bin
 decreases-loop-bin l = length l.initial.bin_scores - l.bin

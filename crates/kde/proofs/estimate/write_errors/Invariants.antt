@@ -8,7 +8,8 @@ use Rattle.kde.specs.Estimate.{posterior_error}
 use Rattle.kde.proofs.estimate.write_errors.Given as goal
 
 abbrev pub invariant-loop-i : goal.invariant-loop-i
-invariant-loop-i l = Writing (λ (k : ℕ). posterior_error l.estimator l.bins (get_or l.scores k nan)) nan (length l.initial.errors) l.errors l.i
+invariant-loop-i l = Writing (λ (k : ℕ). posterior_error l.estimator l.bins (get_or l.scores k nan)) nan
+    (length l.initial.errors) l.errors l.i
 
 abbrev pub decreases-loop-i : goal.decreases-loop-i
 decreases-loop-i l = length l.initial.errors - l.i

@@ -17,9 +17,11 @@ decreases-loop-d l = 12 - l.d
 
 abbrev pub invariant-loop-d-2 : goal.invariant-loop-d-2
 invariant-loop-d-2 l =
-    Rewriting (λ k. get_or l.initial.a k nan) (λ k. add binary64 (get_or l.initial.a k nan) (mul binary64 l.x (entry l.kept l.g (l.j + k)))) nan 12 l.a
+    Rewriting (λ k. get_or l.initial.a k nan)
+    (λ k. add binary64 (get_or l.initial.a k nan) (mul binary64 l.x (entry l.kept l.g (l.j + k)))) nan 12 l.a
     l.d
-    × Rewriting (λ k. get_or l.initial.b k nan) (λ k. add binary64 (get_or l.initial.b k nan) (mul binary64 l.y (entry l.kept l.g (l.j + k)))) nan 12
+    × Rewriting (λ k. get_or l.initial.b k nan)
+    (λ k. add binary64 (get_or l.initial.b k nan) (mul binary64 l.y (entry l.kept l.g (l.j + k)))) nan 12
     l.b l.d
     × (l.d ≤ l.width)
 
@@ -27,7 +29,8 @@ abbrev pub decreases-loop-d-2 : goal.decreases-loop-d-2
 decreases-loop-d-2 l = l.width - l.d
 
 abbrev pub invariant-loop-g : goal.invariant-loop-g
-invariant-loop-g l = (l.g ≤ l.m) × (l.a ≡ accumulated l.width l.kept l.g l.j l.j l.table) × (l.b ≡ accumulated l.width l.kept l.g (l.j + 1) l.j l.table)
+invariant-loop-g l = (l.g ≤ l.m) × (l.a ≡ accumulated l.width l.kept l.g l.j l.j l.table)
+    × (l.b ≡ accumulated l.width l.kept l.g (l.j + 1) l.j l.table)
 
 abbrev pub decreases-loop-g : goal.decreases-loop-g
 decreases-loop-g l = l.m - l.g

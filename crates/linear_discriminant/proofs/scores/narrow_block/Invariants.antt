@@ -8,7 +8,8 @@ use Rattle.linear_discriminant.proofs.scores.narrow_block.Given as goal
 
 abbrev pub invariant-loop-i : goal.invariant-loop-i
 invariant-loop-i l =
-    (length l.narrowed ≡ length l.initial.narrowed) × Walk (λ i' column. set column i' (narrowed_score l.scores i')) l.from l.i l.to l.initial.narrowed
+    (length l.narrowed ≡ length l.initial.narrowed)
+    × Walk (λ i' column. set column i' (narrowed_score l.scores i')) l.from l.i l.to l.initial.narrowed
     l.narrowed
 
 abbrev pub decreases-loop-i : goal.decreases-loop-i

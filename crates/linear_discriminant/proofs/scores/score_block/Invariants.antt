@@ -16,7 +16,8 @@ decreases-loop-j l = 20 - l.j
 
 abbrev pub invariant-loop-i : goal.invariant-loop-i
 invariant-loop-i l =
-    (length l.scores ≡ length l.initial.scores) × Walk (λ i' column. set column i' (score_at l.coefficients l.features i')) l.from l.i l.to
+    (length l.scores ≡ length l.initial.scores)
+    × Walk (λ i' column. set column i' (score_at l.coefficients l.features i')) l.from l.i l.to
     l.initial.scores l.scores
 
 abbrev pub decreases-loop-i : goal.decreases-loop-i
