@@ -5,7 +5,8 @@ ghost use Rattle.linear_discriminant.specs.Inner.Passes.{centred_row, pair_added
 ghost use Rattle.linear_discriminant.specs.Inner.Passes.{stored_place, stored_width, within_row, within_table};
 
 // Both classes' scatter. Each row is kept in its class's next place, without a branch on its label, and added when
-// sixteen are kept.
+// sixteen are kept. Inlined, the kept rows would lie in the caller's stack while the system is solved.
+#[inline(never)]
 pub(crate) fn class_scatters(
     features: &[f64],
     labels: &[i32],
