@@ -42,15 +42,20 @@ fn sage(entries: &[f64], size: usize) -> Option<Vec<f64>> {
 /// Sizes, and systems that have a solution.
 fn systems() -> Vec<bool> {
     let twenty_one = sage(&Matrix::identity(21).take(), 21).map(|answer| answer.len());
-    let (turned, shifted) = ([-1.0, 0.0, 0.0, 1.0], [-1.0, 1.0, 0.0, -1.0]);
+    let (turned, shifted, ones) = ([-1.0, 0.0, 0.0, 1.0], [-2.0, 1.0, 0.0, -2.0], [-1.0, 1.0, 0.0, -1.0]);
     vec![
         check("a system of size 0", (sage(&[], 0), "Some([])"), (port(&[], 0), "(3, [NaN, NaN])")),
         check("of size 21: how many numbers", (twenty_one, "Some(21)"), (port(&[], 21), "(3, [NaN, NaN])")),
         check("-1 0, 0 1 = 1 1", (sage(&turned, 2), "None"), (port(&turned, 2), "(7, [NaN, NaN])")),
         check(
+            "-2 1, 0 -2 = 1 1",
+            (sage(&shifted, 2), "Some([-0.5000000025, 2.99999999])"),
+            (port(&shifted, 2), "(0, [-0.5000000025, 2.99999999])"),
+        ),
+        check(
             "-1 1, 0 -1 = 1 1",
-            (sage(&shifted, 2), "Some([-1.0000000100000002, 1.99999999])"),
-            (port(&shifted, 2), "(0, [-1.0000000100000002, 1.99999999])"),
+            (sage(&ones, 2), "Some([-1.0000000100000002, 1.99999999])"),
+            (port(&ones, 2), "(0, [-1.0000000100000002, 1.99999999])"),
         ),
     ]
 }

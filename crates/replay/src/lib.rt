@@ -104,14 +104,14 @@ fn float_64(bits: u64) -> f64 {
 
 // A float's bits, one pattern for every NaN.
 pub fn bits_32(x: f32) -> u32 {
-    if x.is_nan() {
+    if x != x {
         return NAN_32;
     }
     f32::to_bits(x)
 }
 
 pub fn bits_64(x: f64) -> u64 {
-    if x.is_nan() {
+    if x != x {
         return NAN_64;
     }
     f64::to_bits(x)
