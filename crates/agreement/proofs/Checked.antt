@@ -5,17 +5,14 @@ use Prim.Native.Nat.{ℕ, ◌≤◌}
 use lib.IntN.{ℤ}
 use lib.ListN.{length}
 use lib.Ieee.{Float}
+use Rattle.std.specs.Prelude.{Result, Ok, Err}
 use Rattle.columns.specs.Refusals.{longest, ◌and◌}
 use Rattle.columns.specs.declared.Refusal.{Refusal}
-use Rattle.columns.specs.declared.Counted.{Counted}
-use Rattle.columns.specs.declared.Counted.TheVariants as counted
-use Rattle.columns.specs.declared.Counted.TheVariants.{Passing}
 use Rattle.counting.specs.Lines.{RightLine}
 use Rattle.line_check.specs.Check.{per_of, counts_at, line_answer}
 use Rattle.line_check.specs.declared.Rate.{Rate}
 use Rattle.line_check.specs.declared.Rate.TheVariants.{OneIn100}
 use Rattle.line_check.specs.declared.Line.{Line}
-use Rattle.line_check.specs.declared.Line.TheVariants as lines
 use Rattle.line_check.specs.declared.Line.TheVariants.{Right}
 use Rattle.qvalue.specs.Spectrum.{SpectrumRun, spectrum_run, spectrum_q_value}
 use Rattle.agreement.specs.Checked.{right_at}
@@ -24,14 +21,14 @@ use Rattle.agreement.proofs.Demand3.{demand_3, short}
 -- a line that is the right one is answered Right
 pub right_answer : (rate : Rate) (labels : List ℤ) (line right : ℕ) → length labels ≤ longest → right ≤ length labels
     → RightLine (per_of rate) labels right → line ≡ right
-    → line_answer (per_of rate) labels line ≡ Right (counts_at labels line)
+    → line_answer (per_of rate) labels line ≡ Ok (Right (counts_at labels line))
 right_answer rate labels line right s l r e =
-    subst (λ (n : ℕ). line_answer (per_of rate) labels n ≡ Right (counts_at labels n)) (sym e)
+    subst (λ (n : ℕ). line_answer (per_of rate) labels n ≡ Ok (Right (counts_at labels n))) (sym e)
     ((demand_3.line_check rate labels right s l).if_right r)
 
 -- the count of an accepted list of spectra
-pub right_at_count : (labels : List ℤ) (q : List Float) (count : ℕ) → (spectrum_q_value labels q).answer ≡ Passing count
-    → line_answer 100 labels count ≡ Right (counts_at labels count)
+pub right_at_count : (labels : List ℤ) (q : List Float) (count : ℕ) → (spectrum_q_value labels q).answer ≡ Ok count
+    → line_answer 100 labels count ≡ Ok (Right (counts_at labels count))
 right_at_count labels q count a =
     let w = demand_3.one_right OneIn100 labels in
     let spectra = demand_3.spectra labels q count w.line a w.listed w.right in
@@ -39,17 +36,18 @@ right_at_count labels q count a =
 
 -- ---- spectra: what the two calls give, one after the other
 
-module _ (labels : List ℤ) (q q' : List Float) (r : Counted) (e : spectrum_run r q' ≡ spectrum_q_value labels q) where
-  pub spectra_refused : (refusal : Refusal) → r ≡ counted.Refused refusal
-      → lines.Refused refusal and q'
+module _ (labels : List ℤ) (q q' : List Float) (r : Result ℕ Refusal)
+    (e : spectrum_run r q' ≡ spectrum_q_value labels q) where
+  pub spectra_refused : (refusal : Refusal) → r ≡ Err refusal
+      → Err refusal and q'
       ≡ right_at labels (spectrum_q_value labels q).answer and (spectrum_q_value labels q).q
   spectra_refused refusal f =
-      ap₂ (λ (x : Line) (y : List Float). x and y)
+      ap₂ (λ (x : Result Line Refusal) (y : List Float). x and y)
       (ap (right_at labels) (sym f ∙ ap (λ (w : SpectrumRun). w.answer) e)) (ap (λ (w : SpectrumRun). w.q) e)
 
-  pub spectra_right : (count : ℕ) (answer : Line) → r ≡ Passing count → answer ≡ line_answer 100 labels count
+  pub spectra_right : (count : ℕ) (answer : Result Line Refusal) → r ≡ Ok count → answer ≡ line_answer 100 labels count
       → answer and q' ≡ right_at labels (spectrum_q_value labels q).answer and (spectrum_q_value labels q).q
   spectra_right count answer f g =
-      let a : (spectrum_q_value labels q).answer ≡ Passing count = sym (ap (λ (w : SpectrumRun). w.answer) e) ∙ f in
-      ap₂ (λ (x : Line) (y : List Float). x and y)
+      let a : (spectrum_q_value labels q).answer ≡ Ok count = sym (ap (λ (w : SpectrumRun). w.answer) e) ∙ f in
+      ap₂ (λ (x : Result Line Refusal) (y : List Float). x and y)
       (g ∙ right_at_count labels q count a ∙ ap (right_at labels) (sym a)) (ap (λ (w : SpectrumRun). w.q) e)

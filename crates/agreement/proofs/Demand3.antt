@@ -16,13 +16,10 @@ use lib.Ieee.{Float, nan, le}
 use Rattle.folds.specs.Lists.{filled}
 use Rattle.folds.proofs.Tests.{lt_or_ge}
 use Rattle.folds.proofs.Writing.{tabulated_at, map_at, all_at}
-use Rattle.columns.specs.Refusals.{longest, RankedRun, ranked_run}
-use Rattle.columns.specs.declared.Outcome.{Outcome}
-use Rattle.columns.specs.declared.Outcome.TheVariants as outcome
-use Rattle.columns.specs.declared.Outcome.TheVariants.{Accepted}
-use Rattle.columns.proofs.Questions.{refused_not_accepted, refused_not_counted, if_accepted, was_accepted}
-use Rattle.columns.specs.declared.Counted.{Counted}
-use Rattle.columns.specs.declared.Counted.TheVariants.{Passing, Refused}
+use Rattle.std.specs.Prelude.{Result, Ok, Err}
+use Rattle.columns.specs.declared.Refusal.{Refusal}
+use Rattle.columns.specs.Refusals.{Asked, longest, RankedRun, ranked_run}
+use Rattle.columns.proofs.Questions.{refused_not_accepted, refused_not_accepted, if_accepted, was_accepted}
 use Rattle.floats.specs.Ratio.{one_in}
 use Rattle.floats.proofs.Ratio.{sharp_100, sharp_20}
 use Rattle.counting.specs.Labels.{is_decoy, targets}
@@ -100,14 +97,14 @@ check rate labels line s l = record {
 
 -- ---- spectra
 
-module _ (labels : List ℤ) (q : List Float) (count line : ℕ) (a : (spectrum_q_value labels q).answer ≡ Passing count)
+module _ (labels : List ℤ) (q : List Float) (count line : ℕ) (a : (spectrum_q_value labels q).answer ≡ Ok count)
     (l : line ≤ length labels) (r : RightLine 100 labels line) where
-  took : (spectrum_asked (length labels) (length q) ≡ Accepted) × (count ≡ count_at_most (one_in 100) (q_values labels))
+  took : (spectrum_asked (length labels) (length q) ≡ Ok tt) × (count ≡ count_at_most (one_in 100) (q_values labels))
   unfolding spectrum_q_value
   took =
       let passing = count_at_most (one_in 100) (q_values labels) in
       let w = was_accepted (λ (w : SpectrumRun). w.answer) (spectrum_asked (length labels) (length q))
-      (spectrum_run (Passing passing) (q_values labels)) (λ r. spectrum_run (Refused r) (filled nan q)) refused_not_counted a in
+      (spectrum_run (Ok passing) (q_values labels)) (λ r. spectrum_run (Err r) (filled nan q)) refused_not_accepted a in
       (w.0, cc)
 
   pub short : length labels ≤ longest
@@ -150,19 +147,19 @@ targets_up c (l ∷ ls) (q ∷ qs) (suc line) e g =
     rw (g 0 (zero-lt-suc (length ls)), leb-suc-suc, leb-zero, targets_up c ls qs line (omega (arith, e)) (λ (i : ℕ) (h : i < length ls). g (suc i) (omega arith) ∙ leb-suc-suc (suc i) line))
 
 module _ (labels : List ℤ) (scores : List Float) (keys spare : List ℕ) (q : List Float) (count line : ℕ)
-    (a : (picked_precursor labels scores keys spare q).answer ≡ Passing count)
+    (a : (picked_precursor labels scores keys spare q).answer ≡ Ok count)
     (l : line ≤ length (as_ranked labels scores))
     (r : RightLine 20 (as_ranked labels scores) line) where
-  let_in : (precursor_asked (length labels) (length scores) (length keys) (length spare) (length q) ≡ Accepted)
+  let_in : (precursor_asked (length labels) (length scores) (length keys) (length spare) (length q) ≡ Ok tt)
       × (count ≡ targets_at_most (one_in 20) (as_ranked labels scores) (q_values (as_ranked labels scores)))
   unfolding picked_precursor
   let_in =
       let rows = as_ranked labels scores in
-      let after : Counted → List Float → RankedRun = λ answer. ranked_run answer (filled 0 keys) (filled 0 spare) in
+      let after : Result ℕ Refusal → List Float → RankedRun = λ answer. ranked_run answer (filled 0 keys) (filled 0 spare) in
       let w = was_accepted (λ (w : RankedRun). w.answer)
       (precursor_asked (length labels) (length scores) (length keys) (length spare) (length q))
-      (after (Passing (targets_at_most (one_in 20) rows (q_values rows))) (precursor_q labels scores))
-      (λ r. after (Refused r) (filled nan q)) refused_not_counted a in
+      (after (Ok (targets_at_most (one_in 20) rows (q_values rows))) (precursor_q labels scores))
+      (λ r. after (Err r) (filled nan q)) refused_not_accepted a in
       (w.0, cc)
 
   lengths : (length labels ≡ length scores) × PrecursorReady (length scores) (length keys) (length spare) (length q)
@@ -219,14 +216,14 @@ in_order labels scores = record {
 }
 
 precursor_order_lem : (labels : List ℤ) (scores : List Float) (keys spare order : List ℕ)
-    → (precursor_order scores keys spare order).answer ≡ Accepted
+    → (precursor_order scores keys spare order).answer ≡ Ok tt
     → Order labels scores (precursor_order scores keys spare order).order
 unfolding precursor_order
 precursor_order_lem labels scores keys spare order a =
-    let after : Outcome → List ℕ → OrderRun = λ answer. order_run answer (filled 0 keys) (filled 0 spare) in
+    let after : Asked → List ℕ → OrderRun = λ answer. order_run answer (filled 0 keys) (filled 0 spare) in
     let e = was_accepted (λ (w : OrderRun). w.answer)
     (order_asked (length scores) (length keys) (length spare) (length order))
-    (after Accepted (ranked_order scores)) (λ r. after (outcome.Refused r) (filled 4294967295 order)) refused_not_accepted a in
+    (after (Ok tt) (ranked_order scores)) (λ r. after (Err r) (filled 4294967295 order)) refused_not_accepted a in
     subst (λ (w : OrderRun). Order labels scores w.order) (sym (if_accepted _ _ e.0)) (in_order labels scores)
 
 -- ---- the theorem

@@ -15,14 +15,11 @@ use Rattle.folds.specs.Lists.{filled}
 use Rattle.folds.specs.Inner.All.{All}
 use Rattle.folds.proofs.Tests.{both_true}
 use Rattle.folds.proofs.Writing.{length_tabulated, tabulated_at, map_at, all_at, same_blank}
-use Rattle.columns.specs.Refusals.{longest, RankedRun, ranked_run}
-use Rattle.columns.specs.declared.Counted.{Counted}
-use Rattle.columns.specs.declared.Counted.TheVariants as counted
-use Rattle.columns.specs.declared.Outcome.{Outcome}
-use Rattle.columns.specs.declared.Outcome.TheVariants.{Accepted}
+use Rattle.std.specs.Prelude.{Result, Ok, Err, IsOk}
+use Rattle.columns.specs.Refusals.{Asked, longest, RankedRun, ranked_run}
 use Rattle.columns.specs.declared.Refusal.{Refusal}
 use Rattle.columns.specs.declared.Refusal.TheVariants.{TooLong, WrongLength}
-use Rattle.columns.proofs.Questions.{met, if_accepted, was_accepted}
+use Rattle.columns.proofs.Questions.{refused_not_accepted, met, if_accepted, was_accepted}
 use Rattle.floats.specs.Ratio.{one_in}
 use Rattle.floats.proofs.Ratio.{sharp_20}
 use Rattle.counting.specs.Labels.{targets}
@@ -34,7 +31,6 @@ use Rattle.line_check.specs.Check.{counts_at, line_answer}
 use Rattle.line_check.specs.declared.Rate.TheVariants.{OneIn20}
 use Rattle.line_check.specs.declared.Counts.{Counts}
 use Rattle.line_check.specs.declared.Line.{Line}
-use Rattle.line_check.specs.declared.Line.TheVariants as lines
 use Rattle.line_check.specs.declared.Line.TheVariants.{Right}
 use Rattle.ranking.specs.Ranking.{ranked_rows, ranked_order, as_ranked, rank_of}
 use Rattle.ranking.proofs.Places.{length_as_ranked, length_order, order_in_bounds, rank_of_place, labels_in_order}
@@ -48,7 +44,7 @@ use Rattle.agreement.proofs.Checked.{right_answer}
 -- ---- the questions, and that both calls then accept
 
 pub checked_lengths : (labels scores keys spare ranked order q : ℕ)
-    → checked_asked labels scores keys spare ranked order q ≡ Accepted
+    → checked_asked labels scores keys spare ranked order q ≡ Ok tt
     → CheckedReady labels scores keys spare ranked order q
 checked_lengths labels scores keys spare ranked order q e =
     let a = met _ TooLong _ e in
@@ -69,16 +65,16 @@ checked_lengths labels scores keys spare ranked order q e =
 
 asks_precursors : (labels scores keys spare q : ℕ) → labels ≤ longest → scores ≡ labels → keys ≡ labels → spare ≡ labels
     → q ≡ labels
-    → precursor_asked labels scores keys spare q ≡ Accepted
+    → precursor_asked labels scores keys spare q ≡ Ok tt
 asks_precursors labels scores keys spare q s a b c d =
     rw (a, b, c, d, le-leb labels longest s, eq-eqb labels labels refl)
 
 asks_order : (scores keys spare order : ℕ) → scores ≤ longest → keys ≡ scores → spare ≡ scores → order ≡ scores
-    → order_asked scores keys spare order ≡ Accepted
+    → order_asked scores keys spare order ≡ Ok tt
 asks_order scores keys spare order s a b c = rw (a, b, c, le-leb scores longest s, eq-eqb scores scores refl)
 
 asks_checked : (labels scores keys spare ranked order q : ℕ) → CheckedReady labels scores keys spare ranked order q
-    → checked_asked labels scores keys spare ranked order q ≡ Accepted
+    → checked_asked labels scores keys spare ranked order q ≡ Ok tt
 asks_checked labels scores keys spare ranked order q w =
     rw (w.scores_match, w.keys_match, w.spare_match, w.ranked_match, w.order_match, w.q_match, le-leb labels longest w.short, eq-eqb labels labels refl)
 
@@ -112,7 +108,7 @@ q_in_order labels scores e =
 pub right_at_precursors : (labels : List ℤ) (scores : List Float) → length scores ≤ longest
     → let rows = as_ranked labels scores in
     let line = count_at_most (one_in 20) (q_values rows) in
-    line_answer 20 rows line ≡ Right (counts_at rows line)
+    line_answer 20 rows line ≡ Ok (Right (counts_at rows line))
 right_at_precursors labels scores s =
     let rows = as_ranked labels scores in
     let few : length rows ≤ longest = subst (λ (n : ℕ). n ≤ longest) (sym (length_as_ranked labels scores)) s in
@@ -126,8 +122,14 @@ module _ (labels : List ℤ) (scores : List Float) (keys spare : List ℕ) (rank
     (w : CheckedReady (length labels) (length scores) (length keys) (length spare) (length ranked) (length order)
     (length q)) where
   -- the q-values
-  module _ (answer : Counted) (keys₁ spare₁ : List ℕ) (q₁ : List Float)
+  module _ (answer : Result ℕ Refusal) (keys₁ spare₁ : List ℕ) (q₁ : List Float)
       (e : ranked_run answer keys₁ spare₁ q₁ ≡ picked_precursor labels scores keys spare q) where
+    picked_answer : precursor_asked (length labels) (length scores) (length keys) (length spare) (length q) ≡ Ok tt
+        → (picked_precursor labels scores keys spare q).answer
+        ≡ Ok (targets_at_most (one_in 20) (as_ranked labels scores) (q_values (as_ranked labels scores)))
+    unfolding picked_precursor
+    picked_answer a = ap (λ (run : RankedRun). run.answer) (if_accepted _ _ a)
+
     accepted : picked_precursor labels scores keys spare q
         ≡ ranked_run (picked_precursor labels scores keys spare q).answer (filled 0 keys) (filled 0 spare)
         (precursor_q labels scores)
@@ -135,6 +137,11 @@ module _ (labels : List ℤ) (scores : List Float) (keys spare : List ℕ) (rank
     accepted =
         let a = asks_precursors _ _ _ _ _ w.short w.scores_match w.keys_match w.spare_match w.q_match in
         rw (if_accepted _ _ a)
+
+    pub picked_ok : IsOk answer
+    picked_ok =
+        let a = asks_precursors _ _ _ _ _ w.short w.scores_match w.keys_match w.spare_match w.q_match in
+        subst (λ (r : Result ℕ Refusal). IsOk r) (sym (ap (λ (run : RankedRun). run.answer) e ∙ picked_answer a)) refl
 
     pub picked_is : (q₁ ≡ precursor_q labels scores) × (keys₁ ≡ filled 0 keys) × (spare₁ ≡ filled 0 spare)
     picked_is = (
@@ -144,17 +151,20 @@ module _ (labels : List ℤ) (scores : List Float) (keys spare : List ℕ) (rank
     )
 
   -- and their order
-  module _ (answer : Outcome) (keys₁ spare₁ keys₂ spare₂ order₂ : List ℕ) (f : keys₁ ≡ filled 0 keys)
+  module _ (answer : Asked) (keys₁ spare₁ keys₂ spare₂ order₂ : List ℕ) (f : keys₁ ≡ filled 0 keys)
       (g : spare₁ ≡ filled 0 spare)
       (e : order_run answer keys₂ spare₂ order₂ ≡ precursor_order scores keys₁ spare₁ order) where
     ordered : precursor_order scores keys₁ spare₁ order
-        ≡ order_run Accepted (filled 0 keys₁) (filled 0 spare₁) (ranked_order scores)
+        ≡ order_run (Ok tt) (filled 0 keys₁) (filled 0 spare₁) (ranked_order scores)
     unfolding precursor_order
     ordered =
         let m = sym w.scores_match in
         let k : length keys₁ ≡ length scores = ap length f ∙ length-replicate (length keys) 0 ∙ w.keys_match ∙ m in
         let s : length spare₁ ≡ length scores = ap length g ∙ length-replicate (length spare) 0 ∙ w.spare_match ∙ m in
         rw (if_accepted _ _ (asks_order (length scores) _ _ _ (rw w.scores_match w.short) k s (w.order_match ∙ m)))
+
+    pub order_ok : IsOk answer
+    order_ok = subst (λ (r : Asked). IsOk r) (sym (ap (λ (run : OrderRun). run.answer) (e ∙ ordered))) refl
 
     pub order_is : (order₂ ≡ ranked_order scores) × (keys₂ ≡ filled 0 keys) × (spare₂ ≡ filled 0 spare)
     order_is = (
@@ -177,7 +187,7 @@ module _ (labels : List ℤ) (scores : List Float) (keys spare : List ℕ) (rank
 
   -- what is left of each column, and the answer
   pub checked_is : (q₁ : List Float) (keys₂ spare₂ order₂ : List ℕ) (ranked₁ ranked₂ : List ℤ) (line : ℕ)
-      (answer : Line)
+      (answer : Result Line Refusal)
       → q₁ ≡ precursor_q labels scores → keys₂ ≡ filled 0 keys → spare₂ ≡ filled 0 spare → order₂ ≡ ranked_order scores
       → line ≡ count_at_most (one_in 20) (map (λ row. get_or q₁ row nan) order₂)
       → ranked₁ ≡ map (λ row. get_or labels row (pos 0)) order₂
@@ -195,7 +205,8 @@ module _ (labels : List ℤ) (scores : List Float) (keys spare : List ℕ) (rank
       line_is = line_e ∙ rw (q_e, order_e) (ap (count_at_most (one_in 20)) (q_in_order labels scores w.scores_match))
 
       answer_is : answer
-          ≡ Right (counts_at (as_ranked labels scores) (count_at_most (one_in 20) (q_values (as_ranked labels scores))))
+          ≡ Ok (Right (counts_at (as_ranked labels scores)
+          (count_at_most (one_in 20) (q_values (as_ranked labels scores)))))
       answer_is = answer_e ∙ rw (rows_are, line_is) (right_at_precursors labels scores (rw w.scores_match w.short))
 
       left_is : ranked₂ ≡ filled (pos 0) ranked
@@ -206,20 +217,17 @@ module _ (labels : List ℤ) (scores : List Float) (keys spare : List ℕ) (rank
 
 -- ---- what an accepted call says of the two calls that it makes
 
-refused_not_right : {counts : Counts} (r : Refusal) → lines.Refused r ≡ Right counts → ⊥
-refused_not_right r e = let z : ◌≡◌ {A = ℕ} 0 1 = cc in omega arith
-
 pub as_called : (labels : List ℤ) (scores : List Float) (keys spare : List ℕ) (ranked : List ℤ) (order : List ℕ)
     (q : List Float) (counts : Counts)
     → let run = checked_precursors labels scores keys spare ranked order q in
-    run.answer ≡ Right counts
+    run.answer ≡ Ok (Right counts)
     → AsCalled labels scores (picked_precursor labels scores keys spare q) (precursor_order scores keys spare order) run
     counts
 unfolding checked_precursors picked_precursor precursor_order
 as_called labels scores keys spare ranked order q counts e = record {
   counts_are = a.1 ∙ ap (counts_at rows) (sym row_is);
   right = subst (RightLine 20 rows) (sym (row_is ∙ line_is)) (right_line_lem 20 rows);
-  count_is_targets = picked_answer ∙ ap counted.Passing (targets_are ∙ sym (ap (λ (c : Counts). c.targets) a.1));
+  count_is_targets = picked_answer ∙ ap Ok (targets_are ∙ sym (ap (λ (c : Counts). c.targets) a.1));
   same_q =
       ap (λ (run : CheckedRun). run.q) (if_accepted _ _ a.0)
       ∙ sym (ap (λ (run : RankedRun). run.q) (if_accepted _ _ picks));
@@ -235,14 +243,14 @@ as_called labels scores keys spare ranked order q counts e = record {
     line = count_at_most (one_in 20) (q_values rows)
 
     a : (checked_asked (length labels) (length scores) (length keys) (length spare) (length ranked) (length order)
-        (length q) ≡ Accepted) × (counts ≡ counts_at rows line)
+        (length q) ≡ Ok tt) × (counts ≡ counts_at rows line)
     a =
-        let after : Line → List ℕ → List Float → CheckedRun =
+        let after : Result Line Refusal → List ℕ → List Float → CheckedRun =
         λ answer. checked_run answer (filled 0 keys) (filled 0 spare) (filled (pos 0) ranked) in
         let b = was_accepted (λ (run : CheckedRun). run.answer)
         (checked_asked (length labels) (length scores) (length keys) (length spare) (length ranked) (length order) (length q))
-        (after (Right (counts_at rows line)) (ranked_order scores) (precursor_q labels scores))
-        (λ r. after (lines.Refused r) (filled 4294967295 order) (filled nan q)) refused_not_right e in
+        (after (Ok (Right (counts_at rows line))) (ranked_order scores) (precursor_q labels scores))
+        (λ r. after (Err r) (filled 4294967295 order) (filled nan q)) refused_not_accepted e in
         (b.0, cc)
 
     w : CheckedReady (length labels) (length scores) (length keys) (length spare) (length ranked) (length order)
@@ -258,16 +266,16 @@ as_called labels scores keys spare ranked order q counts e = record {
     line_is : line ≡ right_line 20 rows
     line_is = count_is_line rows few 20 (omega arith) sharp_20
 
-    picks : precursor_asked (length labels) (length scores) (length keys) (length spare) (length q) ≡ Accepted
+    picks : precursor_asked (length labels) (length scores) (length keys) (length spare) (length q) ≡ Ok tt
     picks = asks_precursors _ _ _ _ _ w.short w.scores_match w.keys_match w.spare_match w.q_match
 
-    orders : order_asked (length scores) (length keys) (length spare) (length order) ≡ Accepted
+    orders : order_asked (length scores) (length keys) (length spare) (length order) ≡ Ok tt
     orders =
         let m = sym w.scores_match in
         asks_order (length scores) _ _ _ (rw w.scores_match w.short) (w.keys_match ∙ m) (w.spare_match ∙ m) (w.order_match ∙ m)
 
     picked_answer : (picked_precursor labels scores keys spare q).answer
-        ≡ counted.Passing (targets_at_most (one_in 20) rows (q_values rows))
+        ≡ Ok (targets_at_most (one_in 20) rows (q_values rows))
     picked_answer = ap (λ (run : RankedRun). run.answer) (if_accepted _ _ picks)
 
     targets_are : targets_at_most (one_in 20) rows (q_values rows) ≡ targets (take line rows)

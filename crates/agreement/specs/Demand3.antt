@@ -17,12 +17,10 @@
 -- whatever order it came, the precursors given a rounded q-value of at most 0.05 are exactly those up to the right
 -- one-in-twenty line of the list as document 01 ranks it by narrowed peak score, and the call's count is the targets up
 -- to that line."
-use Rattle.std.specs.Prelude.{◌≡◌, ◌⊎◌, List, map, true, false, ℕ, suc, ◌≤◌, ◌<◌, leb, ℤ, pos, length, get_or, take, Float}
+use Rattle.std.specs.Prelude.{◌≡◌, ◌⊎◌, List, map, true, false, ℕ, suc, ◌≤◌, ◌<◌, leb, ℤ, pos, length, get_or, take, Float, Ok}
 use Rattle.std.specs.Float.{nan}
 use Rattle.std.specs.Float.Ieee.{le}
 use Rattle.columns.specs.Refusals.{longest}
-use Rattle.columns.specs.declared.Counted.TheVariants.{Passing}
-use Rattle.columns.specs.declared.Outcome.TheVariants.{Accepted}
 use Rattle.floats.specs.Ratio.{one_in}
 use Rattle.counting.specs.Labels.{targets}
 use Rattle.counting.specs.Lines.{qualifies, RightLine}
@@ -53,9 +51,9 @@ pub record OneLast (rate : ℕ) (labels : List ℤ) (line : ℕ) : Type 0 where
 
 -- the check at a line from zero to the list's length: "right exactly when the line is right"; "Any other … wrong"
 pub record LineCheck (rate : ℕ) (labels : List ℤ) (line : ℕ) : Type 0 where
-  pub if_right : RightLine rate labels line → line_answer rate labels line ≡ Right (counts_at labels line)
+  pub if_right : RightLine rate labels line → line_answer rate labels line ≡ Ok (Right (counts_at labels line))
   pub if_wrong : (RightLine rate labels line → ⊥)
-      → (last : OneLast rate labels line) × (line_answer rate labels line ≡ Wrong (counts_at labels last.row))
+      → (last : OneLast rate labels line) × (line_answer rate labels line ≡ Ok (Wrong (counts_at labels last.row)))
 
 -- the spectrum call, where it accepts, and the right line at one in 100; rows count from 1
 pub record Spectra (labels : List ℤ) (q : List Float) (count line : ℕ) : Type 0 where
@@ -88,12 +86,12 @@ pub record Demand3 : Type 0 where
   pub one_right : (rate : Rate) (labels : List ℤ) → OneRight (per_of rate) labels
   pub line_check : (rate : Rate) (labels : List ℤ) (line : ℕ) → length labels ≤ longest → line ≤ length labels
       → LineCheck (per_of rate) labels line
-  pub spectra : (labels : List ℤ) (q : List Float) (count line : ℕ) → (spectrum_q_value labels q).answer ≡ Passing count
+  pub spectra : (labels : List ℤ) (q : List Float) (count line : ℕ) → (spectrum_q_value labels q).answer ≡ Ok count
       → line ≤ length labels → RightLine 100 labels line → Spectra labels q count line
   pub precursors : (labels : List ℤ) (scores : List Float) (keys spare : List ℕ) (q : List Float) (count line : ℕ)
       → let run = picked_precursor labels scores keys spare q in
-      run.answer ≡ Passing count → line ≤ length (as_ranked labels scores) → RightLine 20 (as_ranked labels scores) line
+      run.answer ≡ Ok count → line ≤ length (as_ranked labels scores) → RightLine 20 (as_ranked labels scores) line
       → Precursors labels scores run.q count line
   pub order : (labels : List ℤ) (scores : List Float) (keys spare order : List ℕ)
       → let run = precursor_order scores keys spare order in
-      run.answer ≡ Accepted → Order labels scores run.order
+      run.answer ≡ Ok tt → Order labels scores run.order

@@ -14,19 +14,17 @@ ghost use Rattle.qvalue.specs.Spectrum.{spectrum_q_value};
 ghost use Rattle.agreement.specs.Checked.{right_at, checked_asked, checked_run, checked_precursors};
 ghost use Rattle.agreement.specs.Inner.Ready.{CheckedReady};
 
-use columns::{Counted, Outcome, Refusal};
+use columns::Refusal;
 use line_check::{Line, Rate};
 
 // Q-values of a ranked list of spectra, and the line check's answer at one in 100 for the line after its last row that
 // passes: Right with its counts, or why the list is refused.
-pub fn checked_spectra(labels: &[i32], q: &mut [f32]) -> Line
+pub fn checked_spectra(labels: &[i32], q: &mut [f32]) -> Result<Line, Refusal>
     ensures { let run = spectrum_q_value labels.now q.old in
         result and q.new ≡ right_at labels.now run.answer and run.q }
 {
-    match qvalue::spectrum_q_value(labels, q) {
-        Counted::Refused(refusal) => Line::Refused(refusal),
-        Counted::Passing(count) => line_check::check_line(labels, count, Rate::OneIn100),
-    }
+    let count = qvalue::spectrum_q_value(labels, q)?;
+    line_check::check_line(labels, count, Rate::OneIn100)
 }
 
 // Questions 1 and 2.
@@ -38,19 +36,19 @@ fn ask(
     ranked: usize,
     order: usize,
     q: usize,
-) -> Outcome
+) -> Result<(), Refusal>
     ensures { result ≡ checked_asked labels scores keys spare ranked order q }
 {
     let short = (labels <= columns::LONGEST) & (scores <= columns::LONGEST);
     if !short {
-        return Outcome::Refused(Refusal::TooLong);
+        return Err(Refusal::TooLong);
     }
     let working = (keys == labels) & ((spare == labels) & (ranked == labels));
     let one_per_row = (scores == labels) & (working & ((order == labels) & (q == labels)));
     if !one_per_row {
-        return Outcome::Refused(Refusal::WrongLength);
+        return Err(Refusal::WrongLength);
     }
-    Outcome::Accepted
+    Ok(())
 }
 
 // The labels in ranked order, and how many rows have a q-value of at most 0.05.
@@ -61,17 +59,15 @@ fn read_ranked(labels: &[i32], q: &[f32], order: &[u32], ranked: &mut [i32]) -> 
     ensures column { ranked.new ≡ map (λ row. get_or labels.now row (pos 0)) order.now }
 {
     let mut passing = 0;
-    let mut i = 0;
-    while i < order.len() {
-        let row = order[i] as usize;
+    for (i, row) in order.iter().enumerate() {
+        let row = *row as usize;
         ranked[i] = labels[row];
         passing += (q[row] <= 0.05) as usize;
-        i += 1;
     }
     passing
 }
 
-// The work of `checked_precursors`, whose questions are those of both calls: neither refuses.
+// The work of `checked_precursors`, whose questions are those of both calls: it is proved that neither refuses.
 fn make_and_check(
     labels: &[i32],
     scores: &[f64],
@@ -80,18 +76,18 @@ fn make_and_check(
     ranked: &mut [i32],
     order: &mut [u32],
     q: &mut [f32],
-) -> Line
+) -> Result<Line, Refusal>
     requires { CheckedReady (length labels.now) (length scores.now) (length keys.old) (length spare.old)
         (length ranked.old) (length order.old) (length q.old) }
     ensures { let after = checked_run result keys.new spare.new ranked.new order.new in
         let run = checked_precursors labels.now scores.now keys.old in
         after q.new ≡ run spare.old ranked.old order.old q.old }
 {
-    precursor::picked_precursor(labels, scores, keys, spare, q);
-    precursor::precursor_order(scores, keys, spare, order);
+    precursor::picked_precursor(labels, scores, keys, spare, q).unwrap();
+    precursor::precursor_order(scores, keys, spare, order).unwrap();
     let line = read_ranked(labels, q, order, ranked);
     let answer = line_check::check_line(ranked, line, Rate::OneIn20);
-    columns::fill_i32(ranked, 0);
+    ranked.fill(0);
     answer
 }
 
@@ -106,7 +102,7 @@ pub fn checked_precursors(
     ranked: &mut [i32],
     order: &mut [u32],
     q: &mut [f32],
-) -> Line
+) -> Result<Line, Refusal>
     ensures { let after = checked_run result keys.new spare.new ranked.new order.new in
         let run = checked_precursors labels.now scores.now keys.old in
         after q.new ≡ run spare.old ranked.old order.old q.old }
@@ -120,12 +116,13 @@ pub fn checked_precursors(
         order.len(),
         q.len(),
     ) {
-        Outcome::Refused(refusal) => {
-            columns::blank(keys, spare, q);
-            columns::fill_i32(ranked, 0);
-            columns::fill_u32(order, 0xffff_ffff);
-            Line::Refused(refusal)
+        Err(refusal) => {
+            columns::clear(keys, spare);
+            ranked.fill(0);
+            columns::blank(order);
+            columns::blank(q);
+            Err(refusal)
         }
-        Outcome::Accepted => make_and_check(labels, scores, keys, spare, ranked, order, q),
+        Ok(()) => make_and_check(labels, scores, keys, spare, ranked, order, q),
     }
 }

@@ -1,38 +1,56 @@
 -- What the questions' answers say: of the questions that were met, and of what the call answers and leaves.
-use mathlib.Core.Path.{◌≡◌, refl}
+use mathlib.Core.Path.{◌≡◌, refl, sym, ◌∙◌}
 use mathlib.Core.Bool.{Bool, true, false}
-use Prim.Native.Nat.{ℕ}
+use Prim.Native.Nat.{ℕ, ◌≤◌}
 use native.Mathlib.Omega.{arith}
-use Rattle.columns.specs.Refusals.{if_not, answered}
+use borrow.Author.Tests.{eqb-true}
+use lib.Dec.{leb, eqb, leb→le}
+use Rattle.std.specs.Prelude.{Result, Ok, Err}
+use Rattle.std.specs.Result.{IsErrAnd}
+use Rattle.std.proofs.lemmas.Result.{err_from_is_err_and}
+use Rattle.columns.specs.Refusals.{longest, Asked, if_not, answered, asked}
 use Rattle.columns.specs.declared.Refusal.{Refusal}
-use Rattle.columns.specs.declared.Counted.TheVariants as counted
-use Rattle.columns.specs.declared.Outcome.{Outcome}
-use Rattle.columns.specs.declared.Outcome.TheVariants.{Accepted, Refused}
+use Rattle.columns.specs.declared.Refusal.TheVariants.{TooLong, WrongLength}
 
 -- a refusal is no other answer
-pub refused_not_accepted : (r : Refusal) → Refused r ≡ Accepted → ⊥
+pub refused_not_accepted : {A : Type 0} {x : A} (r : Refusal) → Err r ≡ Ok x → ⊥
 refused_not_accepted r e = let z : ◌≡◌ {A = ℕ} 0 1 = cc in omega arith
 
-pub refused_not_counted : {n : ℕ} (r : Refusal) → counted.Refused r ≡ counted.Passing n → ⊥
-refused_not_counted r e = let z : ◌≡◌ {A = ℕ} 0 1 = cc in omega arith
-
 -- where all are met, so are the first and the rest
-pub met : (b : Bool) (r : Refusal) (next : Outcome) → if_not b r next ≡ Accepted → (b ≡ true) × (next ≡ Accepted)
+pub met : (b : Bool) (r : Refusal) (next : Asked) → if_not b r next ≡ Ok tt → (b ≡ true) × (next ≡ Ok tt)
 met true r next e = (refl, e)
 met false r next e = absurd (refused_not_accepted r e)
 
 -- what a call answers and leaves, by what its questions say
-pub if_accepted : {A : Type 0} {o : Outcome} (accepted : A) (refused : Refusal → A) → o ≡ Accepted
+pub if_accepted : {A : Type 0} {o : Asked} (accepted : A) (refused : Refusal → A) → o ≡ Ok tt
     → answered o accepted refused ≡ accepted
 if_accepted accepted refused e = rw e
 
-pub if_refused : {A : Type 0} {o : Outcome} {r : Refusal} (accepted : A) (refused : Refusal → A) → o ≡ Refused r
+pub if_refused : {A : Type 0} {o : Asked} {r : Refusal} (accepted : A) (refused : Refusal → A) → o ≡ Err r
     → answered o accepted refused ≡ refused r
 if_refused accepted refused e = rw e
 
 -- where no refusal gives an answer, the questions were met, and it is that of the accepted call
-pub was_accepted : {A B : Type 0} (answer : A → B) {b : B} (o : Outcome) (accepted : A) (refused : Refusal → A)
+pub was_accepted : {A B : Type 0} (answer : A → B) {b : B} (o : Asked) (accepted : A) (refused : Refusal → A)
     → ((r : Refusal) → answer (refused r) ≡ b → ⊥) → answer (answered o accepted refused) ≡ b
-    → (o ≡ Accepted) × (answer accepted ≡ b)
-was_accepted answer Accepted accepted refused other e = (refl, e)
-was_accepted answer (Refused r) accepted refused other e = absurd (other r e)
+    → (o ≡ Ok tt) × (answer accepted ≡ b)
+was_accepted answer (Ok tt) accepted refused other e = (refl, e)
+was_accepted answer (Err r) accepted refused other e = absurd (other r e)
+
+-- a list and a column that questions 1 and 2 let pass
+pub asked_lengths : (rows column : ℕ) → asked rows column ≡ Ok tt → (column ≡ rows) × (rows ≤ longest)
+asked_lengths rows column e =
+    let short = met (leb rows longest) TooLong _ e in
+    let even = met (eqb column rows) WrongLength _ short.1 in
+    (eqb-true _ _ even.0, leb→le rows longest (rw short.0 tt))
+
+-- what `?` gives back where a question is not met: the refusal
+pub given_back : {A : Type 0} {o answer asked : Asked} {r : Refusal} (result : Result A Refusal) → asked ≡ o
+    → answer ≡ asked → answer ≡ Err r → IsErrAnd result (λ s. s ≡ r)
+    → (o ≡ Err r) × (result ≡ Err r)
+given_back result e k l w = let p = err_from_is_err_and result w in (sym e ∙ sym k ∙ l, rw p.2 at p.1)
+
+-- where all are met, the column stands as it was
+pub kept : {A : Type 0} {o : Asked} {column : A} (before blank : A) → column ≡ answered o before (λ r. blank)
+    → o ≡ Ok tt → column ≡ before
+kept before blank e k = e ∙ if_accepted _ _ k

@@ -1,13 +1,9 @@
 -- The numbers of refusals, and what calls answer and leave. Document 01, "Questions asked of each call, in this order";
 -- "A refusal returns its number".
-use Rattle.std.specs.Prelude.{ℕ, List, Float, Bool, cond}
+use Rattle.std.specs.Prelude.{ℕ, List, Float, Bool, leb, eqb, cond, Result, Ok, Err}
 use Rattle.columns.specs.declared.Refusal.{Refusal}
 use Rattle.columns.specs.declared.Refusal.TheVariants.{TooLong, WrongLength, OutOfRange, NoTolerance}
 use Rattle.columns.specs.declared.Refusal.TheVariants.{NoSuchSlot, OneClass, Unsolved, NotFinite, PastTheEnd}
-use Rattle.columns.specs.declared.Outcome.{Outcome}
-use Rattle.columns.specs.declared.Outcome.TheVariants as outcome
-use Rattle.columns.specs.declared.Counted.{Counted}
-use Rattle.columns.specs.declared.Counted.TheVariants.{Passing, Refused}
 
 abbrev pub number_of : Refusal → ℕ
 -- "Is every list at most 16,777,215 long? If not: 1."
@@ -29,19 +25,19 @@ number_of NotFinite = 8
 -- "Is the line at most the list's length? If not: 9."
 number_of PastTheEnd = 9
 
--- A call that accepts returns 0.
-abbrev pub outcome_number : Outcome → ℕ
-outcome_number outcome.Accepted = 0
-outcome_number (outcome.Refused r) = number_of r
+-- A call that accepts returns 0; "A refusal returns its number".
+abbrev pub answer_number : {A : Type 0} → Result A Refusal → ℕ
+answer_number (Ok x) = 0
+answer_number (Err r) = number_of r
 
--- "A refusal returns its number and count 0"; a call that accepts returns 0 and its count.
-abbrev pub counted_number : Counted → ℕ
-counted_number (Passing n) = 0
-counted_number (Refused r) = number_of r
+-- "A refusal returns its number and count 0"; a call that accepts returns its count.
+abbrev pub answer_count : Result ℕ Refusal → ℕ
+answer_count (Ok n) = n
+answer_count (Err r) = 0
 
-abbrev pub counted_count : Counted → ℕ
-counted_count (Passing n) = n
-counted_count (Refused r) = 0
+-- what the questions say: that all are met, or the first that is not
+abbrev pub Asked : Type 0
+Asked = Result (Unit {0}) Refusal
 
 -- the longest list that question 1 lets pass
 abbrev pub longest : ℕ
@@ -49,13 +45,17 @@ longest = 16777215
 
 -- "Questions asked of each call, in this order … If not: 1.": a refusal where a question is not met, else what the rest
 -- give
-abbrev pub if_not : Bool → Refusal → Outcome → Outcome
-if_not met refusal rest = cond met rest (outcome.Refused refusal)
+abbrev pub if_not : Bool → Refusal → Asked → Asked
+if_not met refusal rest = cond met rest (Err refusal)
+
+-- questions 1 and 2, of a list's rows and the entries of a column beside it
+abbrev pub asked : ℕ → ℕ → Asked
+asked rows column = if_not (leb rows longest) TooLong (if_not (eqb column rows) WrongLength (Ok tt))
 
 -- what a call answers and leaves: what it works out where every question is met, and otherwise what a refusal leaves
-abbrev pub answered : {A : Type 0} → Outcome → A → (Refusal → A) → A
-answered outcome.Accepted accepted refused = accepted
-answered (outcome.Refused r) accepted refused = refused r
+abbrev pub answered : {A : Type 0} → Asked → A → (Refusal → A) → A
+answered (Ok x) accepted refused = accepted
+answered (Err r) accepted refused = refused r
 
 -- what a call returns and what it leaves, as one value
 infixr 40 ◌and◌
@@ -64,10 +64,10 @@ a and b = (a, b)
 
 -- what a call that ranks and counts answers, and its working and result columns afterwards
 pub record RankedRun : Type 0 where
-  pub answer : Counted
+  pub answer : Result ℕ Refusal
   pub keys : List ℕ
   pub spare : List ℕ
   pub q : List Float
 
-abbrev pub ranked_run : Counted → List ℕ → List ℕ → List Float → RankedRun
+abbrev pub ranked_run : Result ℕ Refusal → List ℕ → List ℕ → List Float → RankedRun
 ranked_run answer keys spare q = record { answer = answer; keys = keys; spare = spare; q = q }

@@ -1,13 +1,13 @@
 // What every call asks of its columns, and what a refusal leaves in them (document 01, "Questions asked of each call").
 #![tactic(auto)]
 
-ghost use Rattle.std.specs.Prelude.{◌≡◌};
+ghost use Rattle.std.specs.Prelude.{◌≡◌, Result};
 ghost use Rattle.std.specs.Float.{nan};
 ghost use Rattle.folds.specs.Lists.{filled};
-ghost use Rattle.columns.specs.Refusals.{number_of, outcome_number, counted_number, counted_count};
+ghost use Rattle.columns.specs.Refusals.{number_of, answer_number, asked, answered};
 
 // Why a call refuses, in the order of the questions.
-#[derive(Clone, Copy)]
+#[derive(Clone, Copy, Debug, PartialEq, Eq, Hash)]
 pub enum Refusal {
     TooLong,
     WrongLength,
@@ -21,118 +21,107 @@ pub enum Refusal {
 }
 
 // The question's number.
-pub fn number(refusal: Refusal) -> u32
-    ensures { result ≡ number_of refusal }
-{
-    match refusal {
-        Refusal::TooLong => 1,
-        Refusal::WrongLength => 2,
-        Refusal::OutOfRange => 3,
-        Refusal::NoTolerance => 4,
-        Refusal::NoSuchSlot => 5,
-        Refusal::OneClass => 6,
-        Refusal::Unsolved => 7,
-        Refusal::NotFinite => 8,
-        Refusal::PastTheEnd => 9,
-    }
-}
+impl From<Refusal> for u32 {
+    ghost from_gives = { λ refusal number. number ≡ number_of refusal };
 
-// The answer of a call that fills columns.
-#[derive(Clone, Copy)]
-pub enum Outcome {
-    Accepted,
-    Refused(Refusal),
+    fn from(refusal: Refusal) -> u32 {
+        match refusal {
+            Refusal::TooLong => 1,
+            Refusal::WrongLength => 2,
+            Refusal::OutOfRange => 3,
+            Refusal::NoTolerance => 4,
+            Refusal::NoSuchSlot => 5,
+            Refusal::OneClass => 6,
+            Refusal::Unsolved => 7,
+            Refusal::NotFinite => 8,
+            Refusal::PastTheEnd => 9,
+        }
+    }
 }
 
 // 0 where the call accepts, else the question's number.
-pub fn outcome_number(answer: Outcome) -> u32
-    ensures { result ≡ outcome_number answer }
+pub fn answer_number<T: Copy>(answer: &Result<T, Refusal>) -> u32
+    ensures { result ≡ answer_number answer.now }
 {
     match answer {
-        Outcome::Accepted => 0,
-        Outcome::Refused(refusal) => number(refusal),
-    }
-}
-
-// The answer of a call that counts: how many rows pass, or why it refuses.
-#[derive(Clone, Copy)]
-pub enum Counted {
-    Passing(usize),
-    Refused(Refusal),
-}
-
-// 0 where the call accepts, else the question's number.
-pub fn counted_number(answer: Counted) -> u32
-    ensures { result ≡ counted_number answer }
-{
-    match answer {
-        Counted::Passing(_) => 0,
-        Counted::Refused(refusal) => number(refusal),
-    }
-}
-
-// How many pass; 0 where the call refuses.
-pub fn counted_count(answer: Counted) -> usize
-    ensures { result ≡ counted_count answer }
-{
-    match answer {
-        Counted::Passing(n) => n,
-        Counted::Refused(_) => 0,
+        Ok(_) => 0,
+        Err(refusal) => u32::from(*refusal),
     }
 }
 
 // The longest list that question 1 lets pass: 2^24 - 1 rows, so that each count is exact as an f32.
 pub const LONGEST: usize = 16_777_215;
 
-// The column with `value` in every place. One function for each type of element; their proofs are one law.
-pub fn fill_f32(column: &mut [f32], value: f32)
-    ensures { column.new ≡ filled value column.old }
-{
-    let mut i = 0;
-    while i < column.len() {
-        column[i] = value;
-        i += 1;
+// What a refusal leaves in every place of a result column: "NaN (floats) or 4,294,967,295 (32-bit whole numbers)".
+pub trait HasBlank: Copy {
+    ghost blank: { Self };
+
+    fn blank() -> Self
+        ensures { result ≡ blank };
+
+    // a copy is the same, and takes no memory
+    ghost copies: { (x : Self) → Self.is_infallible x × ((y : Self) → Self.is_clone x y → y ≡ x) };
+}
+
+impl HasBlank for f32 {
+    ghost copies = { λ x. (tt, λ y e. e) };
+
+    ghost blank = { nan };
+
+    fn blank() -> f32 {
+        f32::NAN
     }
 }
 
-pub fn fill_f64(column: &mut [f64], value: f64)
-    ensures { column.new ≡ filled value column.old }
-{
-    let mut i = 0;
-    while i < column.len() {
-        column[i] = value;
-        i += 1;
+impl HasBlank for f64 {
+    ghost copies = { λ x. (tt, λ y e. e) };
+
+    ghost blank = { nan };
+
+    fn blank() -> f64 {
+        f64::NAN
     }
 }
 
-pub fn fill_u32(column: &mut [u32], value: u32)
-    ensures { column.new ≡ filled value column.old }
-{
-    let mut i = 0;
-    while i < column.len() {
-        column[i] = value;
-        i += 1;
+impl HasBlank for u32 {
+    ghost copies = { λ x. (tt, λ y e. e) };
+
+    ghost blank = { 4294967295 };
+
+    fn blank() -> u32 {
+        u32::MAX
     }
 }
 
-pub fn fill_i32(column: &mut [i32], value: i32)
-    ensures { column.new ≡ filled value column.old }
+// A refused result column: the blank in every place.
+pub fn blank<T: HasBlank>(column: &mut [T])
+    ensures { column.new ≡ filled T.blank column.old }
 {
-    let mut i = 0;
-    while i < column.len() {
-        column[i] = value;
-        i += 1;
-    }
+    column.fill(T::blank());
 }
 
-pub fn fill_u64(column: &mut [u64], value: u64)
-    ensures { column.new ≡ filled value column.old }
+// Questions 1 and 2, of a list and of a column with an entry for each of its rows.
+pub fn ask(rows: usize, column: usize) -> Result<(), Refusal>
+    ensures { result ≡ asked rows column }
 {
-    let mut i = 0;
-    while i < column.len() {
-        column[i] = value;
-        i += 1;
+    if LONGEST < rows {
+        return Err(Refusal::TooLong);
     }
+    if column != rows {
+        return Err(Refusal::WrongLength);
+    }
+    Ok(())
+}
+
+// What the questions say; a refusal leaves the blank in every place of the column.
+pub fn or_blank<T: HasBlank>(asked: Result<(), Refusal>, column: &mut [T]) -> Result<(), Refusal>
+    ensures answer { result ≡ asked }
+    ensures column { column.new ≡ answered asked column.old (λ r. filled T.blank column.old) }
+{
+    if asked.is_err() {
+        blank(column);
+    }
+    asked
 }
 
 // The working columns of a call that ranks: "They hold 0 in every place afterwards, accepted or refused."
@@ -140,16 +129,6 @@ pub fn clear(keys: &mut [u64], spare: &mut [u64])
     ensures keys { keys.new ≡ filled 0 keys.old }
     ensures spare { spare.new ≡ filled 0 spare.old }
 {
-    fill_u64(keys, 0);
-    fill_u64(spare, 0);
-}
-
-// What a refusal of such a call leaves: 0 in the working columns, NaN in the result.
-pub fn blank(keys: &mut [u64], spare: &mut [u64], q: &mut [f32])
-    ensures keys { keys.new ≡ filled 0 keys.old }
-    ensures spare { spare.new ≡ filled 0 spare.old }
-    ensures q { q.new ≡ filled nan q.old }
-{
-    clear(keys, spare);
-    fill_f32(q, 0.0 / 0.0);
+    keys.fill(0);
+    spare.fill(0);
 }

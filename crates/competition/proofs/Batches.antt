@@ -11,6 +11,7 @@ use lib.IntN.{ℤ}
 use lib.ListN.{length, get_or, set, length-append}
 use lib.Seq.{set-get_or}
 use lib.Ieee.{Float, nan, inf, is_nan, lt, eq, le, of_bits}
+use Rattle.std.specs.Prelude.{Ok}
 use Rattle.folds.proofs.Writing.{get_d_constant}
 use Rattle.folds.proofs.Tests.{both_true}
 use Rattle.folds.specs.Lists.{filled}
@@ -18,7 +19,6 @@ use Rattle.floats.specs.Constants.{f32_min}
 use Rattle.floats.specs.MinMax.{max_number}
 use Rattle.floats.proofs.Order.{max_nan, eq→le, le_refl}
 use Rattle.columns.specs.Refusals.{longest}
-use Rattle.columns.specs.declared.Outcome.TheVariants.{Accepted}
 use Rattle.counting.specs.Labels.{is_decoy}
 use Rattle.competition.specs.Tables.{Table, table_of, table_run, fresh_asked, fresh_table}
 use Rattle.competition.specs.Batches.{Batch, appended, no_part, all_allowed, with_row, added, batch_asked, add_rows}
@@ -54,7 +54,7 @@ later_answer a b t = asked_by_lengths b (call_keeps_lengths a t)
 another : (a b : Batch) (t : Table) → BatchReady a t → length b.slots ≤ longest
     → length b.labels ≡ length b.slots
     → length b.scores ≡ length b.slots → all_allowed (length t.forward) b.slots ≡ true
-    → batch_asked b t ≡ Accepted
+    → batch_asked b t ≡ Ok tt
 another a b t w h l s k = batch_accepted b t (record {
   short = h;
   short_table = w.short_table;
@@ -65,21 +65,21 @@ another a b t w h l s k = batch_accepted b t (record {
 })
 
 -- two accepted calls are one, if the appended columns are not too long
-pub joined_calls : (a b : Batch) (t : Table) → batch_asked a t ≡ Accepted
-    → batch_asked b (add_rows a t).table ≡ Accepted
+pub joined_calls : (a b : Batch) (t : Table) → batch_asked a t ≡ Ok tt
+    → batch_asked b (add_rows a t).table ≡ Ok tt
     → length (appended a b).slots ≤ longest
-    → (batch_asked (appended a b) t ≡ Accepted) × (add_rows (appended a b) t ≡ add_rows b (add_rows a t).table)
+    → (batch_asked (appended a b) t ≡ Ok tt) × (add_rows (appended a b) t ≡ add_rows b (add_rows a t).table)
 joined_calls a b t p q h =
     let f = batch_ready a t p in
     let g = batch_ready b t (sym (later_answer a b t) ∙ q) in
-    let e : batch_asked (appended a b) t ≡ Accepted =
+    let e : batch_asked (appended a b) t ≡ Ok tt =
     another a (appended a b) t f h
     (omega (arith, length-append a.labels b.labels, length-append a.slots b.slots, f.labels_length, g.labels_length))
     (omega (arith, length-append a.scores b.scores, length-append a.slots b.slots, f.scores_length, g.scores_length))
     (rw (all_allowed_joined (length t.forward) a.slots b.slots, f.slots_allowed, g.slots_allowed)) in (
       e,
       run_of_accepted (appended a b) t e
-          ∙ ap (table_run Accepted)
+          ∙ ap (table_run (Ok tt))
           (joined_rows a.slots b.slots a.labels b.labels a.scores b.scores f.labels_length f.scores_length t
           ∙ ap (added b.slots b.labels b.scores) (sym (ap (λ r. r.table) (run_of_accepted a t p))))
           ∙ sym (run_of_accepted b (add_rows a t).table q),
@@ -88,8 +88,8 @@ joined_calls a b t p q h =
 -- and an accepted call is two
 pub split_call : (a b : Batch) (t : Table) → length a.labels ≡ length a.slots
     → length a.scores ≡ length a.slots
-    → batch_asked (appended a b) t ≡ Accepted
-    → (batch_asked a t ≡ Accepted) × (batch_asked b (add_rows a t).table ≡ Accepted)
+    → batch_asked (appended a b) t ≡ Ok tt
+    → (batch_asked a t ≡ Ok tt) × (batch_asked b (add_rows a t).table ≡ Ok tt)
 split_call a b t p q e =
     let w = batch_ready (appended a b) t e in
     let h = w.short in
@@ -140,7 +140,7 @@ call_keeps_seen b t = after_call (KeepsSeen t) b t keeps_refl (batch_keeps b.slo
 
 -- ---- a fresh table
 
-module _ (t : Table) (e : fresh_asked t ≡ Accepted) where
+module _ (t : Table) (e : fresh_asked t ≡ Ok tt) where
   -- no slot is seen
   pub fresh_unseen : (slot : ℕ) → slot_seen (fresh_table t).table slot ≡ false
   unfolding fresh_table

@@ -8,10 +8,10 @@ use lib.Dec.{eqb}
 use lib.IntN.{ℤ}
 use lib.ListN.{length, get_or, set}
 use lib.Ieee.{Float, nan}
+use Rattle.std.specs.Prelude.{Ok, Err}
 use Rattle.folds.proofs.Writing.{tabulated_blank}
 use Rattle.folds.specs.Lists.{filled}
-use Rattle.columns.specs.declared.Outcome.{Outcome}
-use Rattle.columns.specs.declared.Outcome.TheVariants.{Accepted, Refused}
+use Rattle.columns.specs.Refusals.{Asked}
 use Rattle.counting.specs.Labels.{is_decoy}
 use Rattle.competition.specs.Tables.{Table, is_seen, table_run}
 use Rattle.competition.specs.Batches.{Batch, no_part, allowed, all_allowed, raise_forward, raise_reverse, with_row, added, batch_asked, add_rows}
@@ -21,8 +21,8 @@ use Rattle.competition.proofs.RowSteps.{same_lengths_refl, SameLengths, same_len
 
 -- ---- an accepted batch
 
-pub run_of_accepted : (b : Batch) (t : Table) → batch_asked b t ≡ Accepted
-    → add_rows b t ≡ table_run Accepted (added b.slots b.labels b.scores t)
+pub run_of_accepted : (b : Batch) (t : Table) → batch_asked b t ≡ Ok tt
+    → add_rows b t ≡ table_run (Ok tt) (added b.slots b.labels b.scores t)
 unfolding add_rows
 run_of_accepted b t e = rw e
 
@@ -39,9 +39,9 @@ pub after_call : (P : Table → Type 0) (b : Batch) (t : Table) → P t → P (a
 unfolding add_rows
 after_call P b t before after = go (batch_asked b t) refl
   where
-    go : (o : Outcome) → batch_asked b t ≡ o → P (add_rows b t).table
-    go Accepted e = rw e after
-    go (Refused r) e = rw e before
+    go : (o : Asked) → batch_asked b t ≡ o → P (add_rows b t).table
+    go (Ok tt) e = rw e after
+    go (Err r) e = rw e before
 
 -- ---- the lengths of a table's columns
 
@@ -104,12 +104,12 @@ pub unseen_winners : (u : Table) → ((slot : ℕ) → slot_seen u slot ≡ fals
 unfolding winners
 unseen_winners u unseen scores flags = go (winners_asked u (length scores) (length flags)) refl
   where
-    go : (o : Outcome) → winners_asked u (length scores) (length flags) ≡ o
+    go : (o : Asked) → winners_asked u (length scores) (length flags) ≡ o
         → winners u scores flags
         ≡ winners_run (winners_asked u (length scores) (length flags)) (filled nan scores) (filled 4294967295 flags)
-    go Accepted e =
+    go (Ok tt) e =
         let w = winners_ready u (length scores) (length flags) e in
         let s = tabulated_blank (winner u) nan scores (length u.forward) (λ i. rw (unseen i)) w.scores_length in
         let f = tabulated_blank (decoy_flag u) 4294967295 flags (length u.forward) (λ i. rw (unseen i)) w.flags_length in
         rw (e, s, f)
-    go (Refused r) e = rw e
+    go (Err r) e = rw e

@@ -5,9 +5,9 @@ use Prim.Native.Nat.{ℕ, ◌<◌}
 use borrow.Author.Tests.{leb-true, ltb-true, eqb-true, le-leb, eq-eqb}
 use lib.Dec.{leb, ltb, eqb}
 use lib.ListN.{length}
+use Rattle.std.specs.Prelude.{Ok}
 use Rattle.folds.proofs.Tests.{both_true}
 use Rattle.columns.specs.Refusals.{longest}
-use Rattle.columns.specs.declared.Outcome.TheVariants.{Accepted}
 use Rattle.columns.specs.declared.Refusal.TheVariants.{TooLong, WrongLength, NoSuchSlot}
 use Rattle.columns.proofs.Questions.{met}
 use Rattle.competition.specs.Tables.{Table, table_short, table_fits}
@@ -34,7 +34,7 @@ slot_in_bounds count slot e n = go (ltb slot count) refl
     go false l = absurd (n (eqb-true slot no_part (ap (λ (b : Bool). b || eqb slot no_part) (sym l) ∙ e)))
 
 module _ (b : Batch) (t : Table) where
-  pub batch_ready : batch_asked b t ≡ Accepted → BatchReady b t
+  pub batch_ready : batch_asked b t ≡ Ok tt → BatchReady b t
   batch_ready e =
       let slots = length b.slots in
       let short = met (batch_short b && table_short t) TooLong _ e in
@@ -48,10 +48,10 @@ module _ (b : Batch) (t : Table) where
         labels_length = eqb-true _ slots rows.0;
         scores_length = eqb-true _ slots rows.1;
         lengths = lengths_match t second.1;
-        slots_allowed = (met (all_allowed (length t.forward) b.slots) NoSuchSlot Accepted fits.1).0;
+        slots_allowed = (met (all_allowed (length t.forward) b.slots) NoSuchSlot (Ok tt) fits.1).0;
       }
 
-  pub batch_accepted : BatchReady b t → batch_asked b t ≡ Accepted
+  pub batch_accepted : BatchReady b t → batch_asked b t ≡ Ok tt
   batch_accepted w =
       let slots = length b.slots in
       let n = length t.forward in
@@ -67,12 +67,12 @@ module _ (b : Batch) (t : Table) where
         w.slots_allowed,
       )
 
-pub winners_ready : (t : Table) (scores flags : ℕ) → winners_asked t scores flags ≡ Accepted
+pub winners_ready : (t : Table) (scores flags : ℕ) → winners_asked t scores flags ≡ Ok tt
     → WinnersReady t scores flags
 winners_ready t scores flags e =
     let slots = length t.forward in
     let results = eqb scores slots && eqb flags slots in
     let short = met (table_short t) TooLong _ e in
-    let fits = both_true (table_fits t) results (met (table_fits t && results) WrongLength Accepted short.1).0 in
+    let fits = both_true (table_fits t) results (met (table_fits t && results) WrongLength (Ok tt) short.1).0 in
     let r = both_true (eqb scores slots) (eqb flags slots) fits.1 in
     record { lengths = lengths_match t fits.0; scores_length = eqb-true scores slots r.0; flags_length = eqb-true flags slots r.1 }

@@ -1,8 +1,8 @@
 -- Question 5, asked of one slot after the other.
-use mathlib.Core.Path.{◌≡◌, refl, sym, ap, ◌∙◌}
+use mathlib.Core.Path.{◌≡◌, sym, ap, ◌∙◌}
 use mathlib.Core.List.{List}
-use mathlib.Core.Bool.{Bool, true, ◌&&◌, and_assoc, and-true}
-use Prim.Native.Nat.{ℕ, suc, ◌+◌, ◌≤◌, ◌<◌, zero-le}
+use mathlib.Core.Bool.{Bool, ◌&&◌, and_assoc, and-true}
+use Prim.Native.Nat.{ℕ, suc, ◌+◌, ◌≤◌, ◌<◌}
 use native.Mathlib.Numerals.{add-one}
 use native.Mathlib.Omega.{arith}
 use lib.ListN.{length, drop, get_or}
@@ -13,9 +13,6 @@ use Rattle.competition.specs.Batches.{allowed, all_allowed}
 pub record Asking (count : ℕ) (slots : List ℕ) (all : Bool) (i : ℕ) : Type 0 where
   pub high : i ≤ length slots
   pub is : (all && all_allowed count (drop i slots)) ≡ all_allowed count slots
-
-pub asking_start : {count : ℕ} {slots : List ℕ} → Asking count slots true 0
-asking_start = record { high = zero-le; is = refl }
 
 pub asking_step : {count : ℕ} {slots : List ℕ} {all x : Bool} {i : ℕ} → Asking count slots all i → i < length slots
     → x ≡ allowed count (get_or slots i 0)

@@ -2,27 +2,22 @@
 use mathlib.Core.Path.{◌≡◌, sym, ap, ◌∙◌}
 use borrow.Author.Tests.{not-true, not-false}
 use mathlib.Core.List.{List}
-use mathlib.Core.Bool.{Bool, true, false, not, cond, ◌||◌}
+use mathlib.Core.Bool.{Bool, true, false, not, cond}
 use Prim.Native.Nat.{ℕ, ◌+◌, ◌≤◌, ◌<◌}
 use lib.ListN.{length, get_or, set}
 use lib.Seq.{set-set}
-use lib.Ieee.{Float, nan, binary32, div, le, of_bits}
+use lib.Ieee.{Float, nan, binary32, le, of_bits}
 use mir.Val.{bool_byte}
 use Rattle.folds.proofs.Tests.{byte_is}
 use Rattle.folds.specs.Lists.{tabulated}
-use Rattle.folds.proofs.Writing.{Writing, writing_start, writing_step, writing_done}
+use Rattle.folds.proofs.Writing.{Writing, writing_step, writing_done}
 use Rattle.floats.specs.MinMax.{max_number}
-use Rattle.competition.specs.Tables.{Table, is_seen}
+use Rattle.competition.specs.Tables.{Table}
 use Rattle.competition.specs.Winners.{slot_seen, winner, decoy_flag}
-use Rattle.competition.specs.Inner.Ready.{WinnersReady}
 
 pub record Slotwise (t : Table) (scores : List Float) (decoys : List ℕ) (slot : ℕ) : Type 0 where
   pub scores_are : Writing (winner t) nan (length t.forward) scores slot
   pub decoys_are : Writing (decoy_flag t) 0 (length t.forward) decoys slot
-
-pub slotwise_start : {t : Table} {scores : List Float} {decoys : List ℕ}
-    → WinnersReady t (length scores) (length decoys) → Slotwise t scores decoys 0
-slotwise_start w = record { scores_are = writing_start w.scores_length; decoys_are = writing_start w.flags_length }
 
 module _ {t : Table} {scores : List Float} {decoys : List ℕ} {slot : ℕ} (w : Slotwise t scores decoys slot) where
   pub slotwise_done : length t.forward ≤ slot
@@ -30,25 +25,20 @@ module _ {t : Table} {scores : List Float} {decoys : List ℕ} {slot : ℕ} (w :
       × (decoys ≡ tabulated (decoy_flag t) 0 (length t.forward))
   slotwise_done h = (writing_done w.scores_are h, writing_done w.decoys_are h)
 
-  module _ (h : slot < length t.forward) {f r : Bool} (forward_is : f ≡ is_seen (get_or t.forward_seen slot 0))
-      (reverse_is : r ≡ is_seen (get_or t.reverse_seen slot 0)) where
-    seen_is : (f || r) ≡ slot_seen t slot
-    seen_is = rw (forward_is, reverse_is)
-
-    pub slotwise_unseen : not (f || r) ≡ true
-        → Slotwise t (set scores slot (div binary32 (of_bits binary32 0) (of_bits binary32 0)))
-        (set decoys slot 4294967295) (slot + 1)
-    unfolding div of_bits
+  module _ (h : slot < length t.forward) {b : Bool} (seen_is : b ≡ slot_seen t slot) where
+    pub slotwise_unseen : not b ≡ true
+        → Slotwise t (set scores slot (of_bits binary32 2143289344)) (set decoys slot 4294967295) (slot + 1)
+    unfolding of_bits
     slotwise_unseen e =
-        let s : slot_seen t slot ≡ false = sym seen_is ∙ not-true (f || r) e in
+        let s : slot_seen t slot ≡ false = sym seen_is ∙ not-true b e in
         record { scores_are = writing_step w.scores_are h (rw s); decoys_are = writing_step w.decoys_are h (rw s) }
 
-    pub slotwise_seen : not (f || r) ≡ false → {x : Float} {d : Bool} (z : Float)
+    pub slotwise_seen : not b ≡ false → {x : Float} {d : Bool} (z : Float)
         → x ≡ max_number (get_or t.forward slot nan) (get_or t.reverse slot nan)
         → d ≡ le (get_or t.forward slot nan) (get_or t.reverse slot nan)
         → Slotwise t (set (set scores slot z) slot x) (set (set decoys slot 4294967295) slot (bool_byte d)) (slot + 1)
     slotwise_seen e {x} {d} z p q =
-        let s : slot_seen t slot ≡ true = sym seen_is ∙ not-false (f || r) e in
+        let s : slot_seen t slot ≡ true = sym seen_is ∙ not-false b e in
         rw (set-set scores slot z x, set-set decoys slot 4294967295 (bool_byte d))
         (record {
           scores_are = writing_step w.scores_are h (rw s p);

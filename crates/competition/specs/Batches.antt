@@ -1,11 +1,9 @@
 -- Rows added to a table, a batch at a time. Document 01, module 5: "A row raises its side by max and marks it seen
 -- (mark 1 …), even if its score is NaN."
-use Rattle.std.specs.Prelude.{List, [], ◌∷◌, ◌++◌, Bool, true, cond, ◌&&◌, ◌||◌, ℕ, leb, ltb, eqb, ℤ, length, get_or, set, Float}
+use Rattle.std.specs.Prelude.{List, [], ◌∷◌, ◌++◌, Bool, true, cond, ◌&&◌, ◌||◌, ℕ, leb, ltb, eqb, ℤ, length, get_or, set, Float, Ok, Err}
 use Rattle.std.specs.Float.{nan}
 use Rattle.floats.specs.MinMax.{max_number}
-use Rattle.columns.specs.Refusals.{longest, if_not, answered}
-use Rattle.columns.specs.declared.Outcome.{Outcome}
-use Rattle.columns.specs.declared.Outcome.TheVariants.{Accepted, Refused}
+use Rattle.columns.specs.Refusals.{longest, Asked, if_not, answered}
 use Rattle.columns.specs.declared.Refusal.TheVariants.{TooLong, WrongLength, NoSuchSlot}
 use Rattle.counting.specs.Labels.{is_decoy}
 use Rattle.competition.specs.Tables.{Table, table_of, table_short, table_fits, TableRun, table_run}
@@ -67,16 +65,16 @@ all_allowed count [] = true
 all_allowed count (s ∷ ss) = allowed count s && all_allowed count ss
 
 -- questions 1, 2 and 5
-abbrev pub batch_asked : Batch → Table → Outcome
+abbrev pub batch_asked : Batch → Table → Asked
 batch_asked b t =
     if_not (batch_short b && table_short t) TooLong
     (if_not (batch_fits b && table_fits t) WrongLength
-    (if_not (all_allowed (length t.forward) b.slots) NoSuchSlot Accepted))
+    (if_not (all_allowed (length t.forward) b.slots) NoSuchSlot (Ok tt)))
 
 -- the rows added; after a refusal "Competition tables … are unchanged"
 unfoldable pub add_rows : Batch → Table → TableRun
 unfolding all_allowed added
 add_rows b t =
     answered (batch_asked b t)
-    (table_run Accepted (added b.slots b.labels b.scores t))
-    (λ r. table_run (Refused r) t)
+    (table_run (Ok tt) (added b.slots b.labels b.scores t))
+    (λ r. table_run (Err r) t)

@@ -1,4 +1,5 @@
 pub mod Tables
 pub mod Batches
 pub mod Winners
+pub mod Borrowed
 pub mod Inner

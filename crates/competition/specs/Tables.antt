@@ -1,11 +1,9 @@
 -- Competition tables. Document 01, module 5: "Each side starts at f32::MIN and unseen. A row raises its side by max and
 -- marks it seen (mark 1; any lent mark but 0 reads as seen), even if its score is NaN."
-use Rattle.std.specs.Prelude.{List, Bool, not, ◌&&◌, ℕ, leb, eqb, length, Float}
+use Rattle.std.specs.Prelude.{List, Bool, not, ◌&&◌, ℕ, leb, eqb, length, Float, Ok, Err}
 use Rattle.floats.specs.Constants.{f32_min}
 use Rattle.folds.specs.Lists.{filled}
-use Rattle.columns.specs.Refusals.{longest, if_not, answered}
-use Rattle.columns.specs.declared.Outcome.{Outcome}
-use Rattle.columns.specs.declared.Outcome.TheVariants.{Accepted, Refused}
+use Rattle.columns.specs.Refusals.{longest, Asked, if_not, answered}
 use Rattle.columns.specs.declared.Refusal.TheVariants.{TooLong, WrongLength}
 
 -- one entry per slot in each column
@@ -37,15 +35,15 @@ table_fits t =
 
 -- what a call answers, and the table afterwards
 pub record TableRun : Type 0 where
-  pub answer : Outcome
+  pub answer : Asked
   pub table : Table
 
-abbrev pub table_run : Outcome → Table → TableRun
+abbrev pub table_run : Asked → Table → TableRun
 table_run answer table = record { answer = answer; table = table }
 
 -- questions 1 and 2
-abbrev pub fresh_asked : Table → Outcome
-fresh_asked t = if_not (table_short t) TooLong (if_not (table_fits t) WrongLength Accepted)
+abbrev pub fresh_asked : Table → Asked
+fresh_asked t = if_not (table_short t) TooLong (if_not (table_fits t) WrongLength (Ok tt))
 
 -- "Each side starts at f32::MIN and unseen"; after a refusal "Competition tables … are unchanged"
 unfoldable pub fresh_table : Table → TableRun
@@ -53,5 +51,5 @@ fresh_table t =
     let forward = filled f32_min t.forward in
     let reverse = filled f32_min t.reverse in
     answered (fresh_asked t)
-    (table_run Accepted (table_of forward reverse (filled 0 t.forward_seen) (filled 0 t.reverse_seen)))
-    (λ r. table_run (Refused r) t)
+    (table_run (Ok tt) (table_of forward reverse (filled 0 t.forward_seen) (filled 0 t.reverse_seen)))
+    (λ r. table_run (Err r) t)

@@ -1,14 +1,12 @@
 -- Who wins each slot. Document 01, module 5: "The winner is decoy if reverse ≥ forward. The port also gives every seen
 -- slot's score() and is_decoy() (1 or 0, a 32-bit number), which the host needs for its densities; an unseen slot has
 -- the blanks named below."
-use Rattle.std.specs.Prelude.{List, Bool, cond, ◌&&◌, ◌||◌, ℕ, eqb, length, get_or, Float}
+use Rattle.std.specs.Prelude.{List, Bool, cond, ◌&&◌, ◌||◌, ℕ, eqb, length, get_or, Float, Ok, Err}
 use Rattle.std.specs.Float.{nan}
 use Rattle.std.specs.Float.Ieee.{le}
 use Rattle.folds.specs.Lists.{filled, tabulated}
 use Rattle.floats.specs.MinMax.{max_number}
-use Rattle.columns.specs.Refusals.{if_not, answered}
-use Rattle.columns.specs.declared.Outcome.{Outcome}
-use Rattle.columns.specs.declared.Outcome.TheVariants.{Accepted, Refused}
+use Rattle.columns.specs.Refusals.{Asked, if_not, answered}
 use Rattle.columns.specs.declared.Refusal.TheVariants.{TooLong, WrongLength}
 use Rattle.competition.specs.Tables.{Table, is_seen, table_short, table_fits}
 
@@ -28,18 +26,18 @@ decoy_flag t slot =
 
 -- what the call answers, and both result columns afterwards
 pub record WinnersRun : Type 0 where
-  pub answer : Outcome
+  pub answer : Asked
   pub scores : List Float
   pub flags : List ℕ
 
-abbrev pub winners_run : Outcome → List Float → List ℕ → WinnersRun
+abbrev pub winners_run : Asked → List Float → List ℕ → WinnersRun
 winners_run answer scores flags = record { answer = answer; scores = scores; flags = flags }
 
 -- questions 1 and 2, of the table and the lengths of both result columns
-abbrev pub winners_asked : Table → ℕ → ℕ → Outcome
+abbrev pub winners_asked : Table → ℕ → ℕ → Asked
 winners_asked t scores flags =
     let slots = length t.forward in
-    if_not (table_short t) TooLong (if_not (table_fits t && (eqb scores slots && eqb flags slots)) WrongLength Accepted)
+    if_not (table_short t) TooLong (if_not (table_fits t && (eqb scores slots && eqb flags slots)) WrongLength (Ok tt))
 
 -- every slot's score and flag; a refusal leaves the blanks
 unfoldable pub winners : Table → List Float → List ℕ → WinnersRun
@@ -47,5 +45,5 @@ unfolding tabulated
 winners t scores flags =
     let slots = length t.forward in
     answered (winners_asked t (length scores) (length flags))
-    (winners_run Accepted (tabulated (winner t) 0 slots) (tabulated (decoy_flag t) 0 slots))
-    (λ r. winners_run (Refused r) (filled nan scores) (filled 4294967295 flags))
+    (winners_run (Ok tt) (tabulated (winner t) 0 slots) (tabulated (decoy_flag t) 0 slots))
+    (λ r. winners_run (Err r) (filled nan scores) (filled 4294967295 flags))

@@ -1,27 +1,48 @@
 // A batch of rows: what it asks of a table, and its rows added, one after the other.
 ghost use Rattle.std.specs.Prelude.{◌≡◌};
 ghost use Rattle.competition.specs.Tables.{table_of, table_run};
-ghost use Rattle.competition.specs.Batches.{batch_of, allowed, all_allowed, batch_short, batch_fits, with_row, added};
+ghost use Rattle.competition.specs.Batches.{allowed, all_allowed, batch_short, batch_fits, with_row, added};
 ghost use Rattle.competition.specs.Batches.{batch_asked, add_rows};
+ghost use Rattle.competition.specs.Borrowed.{table_before, table_after};
 ghost use Rattle.competition.specs.Inner.Ready.{RowReady, BatchReady};
 
-use crate::table::{table_fits, table_short};
+use crate::table::{Table, TableMut};
 use crate::{Competition, NO_PART};
-use columns::{Outcome, Refusal};
+use columns::Refusal;
+use std::marker::Model;
 
-// Question 1 of a batch's columns.
-fn batch_short(slots: &[u32], labels: &[i32], scores: &[f32]) -> bool
-    ensures { result ≡ batch_short (batch_of slots.now labels.now scores.now) }
-{
-    (slots.len() <= columns::LONGEST)
-        & ((labels.len() <= columns::LONGEST) & (scores.len() <= columns::LONGEST))
+// A batch's three columns, one entry per row. A contract sees the record of them. A label of -1 is a decoy: labels are
+// C's numbers.
+#[derive(Drop)]
+pub struct Batch<'a> {
+    pub slots: &'a [u32],
+    pub labels: &'a [i32],
+    pub scores: &'a [f32],
 }
 
-// Question 2 of a batch's columns: one entry per row.
-fn batch_fits(slots: &[u32], labels: &[i32], scores: &[f32]) -> bool
-    ensures { result ≡ batch_fits (batch_of slots.now labels.now scores.now) }
-{
-    (labels.len() == slots.len()) & (scores.len() == slots.len())
+impl<'a> Model for Batch<'a> {
+    ghost use Rattle.competition.specs.Batches.{Batch as Columns, batch_of};
+
+    ghost Value = { Columns };
+
+    ghost view = { λ b. batch_of b.slots.now b.labels.now b.scores.now };
+}
+
+impl<'a> Batch<'a> {
+    // Question 1 of a batch's columns.
+    pub fn is_short(&self) -> bool
+        ensures { result ≡ batch_short self.now }
+    {
+        (self.slots.len() <= columns::LONGEST)
+            & ((self.labels.len() <= columns::LONGEST) & (self.scores.len() <= columns::LONGEST))
+    }
+
+    // Question 2 of a batch's columns: one entry per row.
+    pub fn fits(&self) -> bool
+        ensures { result ≡ batch_fits self.now }
+    {
+        (self.labels.len() == self.slots.len()) & (self.scores.len() == self.slots.len())
+    }
 }
 
 // Question 5 of one row.
@@ -36,139 +57,97 @@ pub fn slots_allowed(slots: &[u32], count: usize) -> bool
     ensures { result ≡ all_allowed count slots.now }
 {
     let mut all = true;
-    for i in 0..slots.len() {
-        all = all & slot_allowed(slots[i], count);
+    for slot in slots {
+        all = all & slot_allowed(*slot, count);
     }
     all
 }
 
 // Questions 1, 2 and 5: may this batch be added to this table?
-pub fn ask_batch(
-    slots: &[u32],
-    labels: &[i32],
-    scores: &[f32],
-    forward: &[f32],
-    reverse: &[f32],
-    forward_seen: &[u32],
-    reverse_seen: &[u32],
-) -> Outcome
-    ensures { let batch = batch_of slots.now labels.now scores.now in
-        let table = table_of forward.now reverse.now forward_seen.now reverse_seen.now in
-        result ≡ batch_asked batch table }
+pub fn ask_batch(batch: &Batch, table: &Table) -> Result<(), Refusal>
+    ensures { result ≡ batch_asked batch.now table.now }
 {
-    if !(batch_short(slots, labels, scores)
-        & table_short(forward, reverse, forward_seen, reverse_seen))
-    {
-        return Outcome::Refused(Refusal::TooLong);
+    if !(batch.is_short() & table.is_short()) {
+        return Err(Refusal::TooLong);
     }
-    if !(batch_fits(slots, labels, scores)
-        & table_fits(forward, reverse, forward_seen, reverse_seen))
-    {
-        return Outcome::Refused(Refusal::WrongLength);
+    if !(batch.fits() & table.fits()) {
+        return Err(Refusal::WrongLength);
     }
-    if !slots_allowed(slots, forward.len()) {
-        return Outcome::Refused(Refusal::NoSuchSlot);
+    if !slots_allowed(batch.slots, table.slots()) {
+        return Err(Refusal::NoSuchSlot);
     }
-    Outcome::Accepted
+    Ok(())
 }
 
 // A row raises its side and marks it seen.
-fn add_row(
-    slot: u32,
-    label: i32,
-    score: f32,
-    forward: &mut [f32],
-    reverse: &mut [f32],
-    forward_seen: &mut [u32],
-    reverse_seen: &mut [u32],
-)
-    requires { RowReady slot (table_of forward.old reverse.old forward_seen.old reverse_seen.old) }
-    ensures { let before = table_of forward.old reverse.old forward_seen.old reverse_seen.old in
-        let after = table_of forward.new reverse.new forward_seen.new reverse_seen.new in
-        after ≡ with_row slot label score before }
+fn add_row(slot: u32, label: i32, score: f32, table: TableMut)
+    requires { RowReady slot (table_before table) }
+    ensures { table_after table.exit ≡ with_row slot label score (table_before table.entry) }
 {
     if slot == NO_PART {
         return;
     }
     let at = slot as usize;
     let entry = Competition {
-        forward: forward[at],
-        reverse: reverse[at],
+        forward: table.forward[at],
+        reverse: table.reverse[at],
     };
     if label == -1 {
-        reverse[at] = entry.raise_reverse(score).reverse;
-        reverse_seen[at] = 1;
+        table.reverse[at] = entry.raise_reverse(score).reverse;
+        table.reverse_seen[at] = 1;
         return;
     }
-    forward[at] = entry.raise_forward(score).forward;
-    forward_seen[at] = 1;
+    table.forward[at] = entry.raise_forward(score).forward;
+    table.forward_seen[at] = 1;
 }
 
 // The rows of a batch, one after the other.
-fn add_all(
-    slots: &[u32],
-    labels: &[i32],
-    scores: &[f32],
-    forward: &mut [f32],
-    reverse: &mut [f32],
-    forward_seen: &mut [u32],
-    reverse_seen: &mut [u32],
-)
-    requires { let batch = batch_of slots.now labels.now scores.now in
-        BatchReady batch (table_of forward.old reverse.old forward_seen.old reverse_seen.old) }
-    ensures { let before = table_of forward.old reverse.old forward_seen.old reverse_seen.old in
-        let after = table_of forward.new reverse.new forward_seen.new reverse_seen.new in
-        after ≡ added slots.now labels.now scores.now before }
+fn add_all(batch: &Batch, table: TableMut)
+    requires { BatchReady batch.now (table_before table) }
+    ensures { let rows = batch.now in
+        table_after table.exit ≡ added rows.slots rows.labels rows.scores (table_before table.entry) }
 {
-    for i in 0..slots.len() {
+    let TableMut {
+        forward,
+        reverse,
+        forward_seen,
+        reverse_seen,
+    } = table;
+    for i in 0..batch.slots.len() {
         add_row(
-            slots[i],
-            labels[i],
-            scores[i],
-            forward,
-            reverse,
-            forward_seen,
-            reverse_seen,
+            batch.slots[i],
+            batch.labels[i],
+            batch.scores[i],
+            TableMut {
+                forward,
+                reverse,
+                forward_seen,
+                reverse_seen,
+            },
         );
     }
 }
 
 // Adds a batch of rows to a table: each row raises its slot's side by max and marks it seen.
-pub fn add_rows(
-    slots: &[u32],
-    labels: &[i32],
-    scores: &[f32],
-    forward: &mut [f32],
-    reverse: &mut [f32],
-    forward_seen: &mut [u32],
-    reverse_seen: &mut [u32],
-) -> Outcome
-    ensures { let batch = batch_of slots.now labels.now scores.now in
-        let before = table_of forward.old reverse.old forward_seen.old reverse_seen.old in
-        let after = table_of forward.new reverse.new forward_seen.new reverse_seen.new in
-        table_run result after ≡ add_rows batch before }
+pub fn add_rows(batch: &Batch, table: TableMut) -> Result<(), Refusal>
+    ensures { table_run result (table_after table.exit) ≡ add_rows batch.now (table_before table.entry) }
 {
-    match ask_batch(
-        slots,
-        labels,
-        scores,
+    ask_batch(batch, &table.read())?;
+    // taken apart: of a struct of `&mut`s that is handed on whole, what its columns hold afterwards is lost
+    let TableMut {
         forward,
         reverse,
         forward_seen,
         reverse_seen,
-    ) {
-        Outcome::Refused(refusal) => Outcome::Refused(refusal),
-        Outcome::Accepted => {
-            add_all(
-                slots,
-                labels,
-                scores,
-                forward,
-                reverse,
-                forward_seen,
-                reverse_seen,
-            );
-            Outcome::Accepted
-        }
-    }
+    } = table;
+    add_all(
+        batch,
+        TableMut {
+            forward,
+            reverse,
+            forward_seen,
+            reverse_seen,
+        },
+    );
+    Ok(())
 }

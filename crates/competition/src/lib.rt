@@ -11,15 +11,15 @@ ghost use Rattle.std.specs.Float.Ieee.{le};
 ghost use Rattle.floats.specs.MinMax.{max_number};
 ghost use Rattle.floats.specs.Constants.{f32_min};
 
-pub use batch::{add_rows, ask_batch, slots_allowed};
-pub use table::{fresh_table, is_seen, table_fits, table_short};
+pub use batch::{Batch, add_rows, ask_batch, slots_allowed};
+pub use table::{Table, TableMut, fresh_table, is_seen};
 pub use winner::winners;
 
 // A row that takes no part has this slot.
 pub const NO_PART: u32 = 4_294_967_295;
 
 // One slot's two sides.
-#[derive(Clone, Copy)]
+#[derive(Clone, Copy, Debug, PartialEq)]
 pub struct Competition {
     pub forward: f32,
     pub reverse: f32,
@@ -29,38 +29,40 @@ impl Competition {
     // f32::MIN, the score of an unseen side
     pub const UNSEEN: f32 = -3.4028235e38;
 
-    pub fn default() -> Self
-        ensures { result ≡ record { forward = f32_min; reverse = f32_min } }
-    {
-        Self {
-            forward: Self::UNSEEN,
-            reverse: Self::UNSEEN,
-        }
-    }
-
     pub fn raise_forward(mut self, score: f32) -> Self
         ensures { result ≡ record { forward = max_number self.forward score; reverse = self.reverse } }
     {
-        self.forward = floats::max_f32(self.forward, score);
+        self.forward = floats::max(self.forward, score);
         self
     }
 
     pub fn raise_reverse(mut self, score: f32) -> Self
         ensures { result ≡ record { forward = self.forward; reverse = max_number self.reverse score } }
     {
-        self.reverse = floats::max_f32(self.reverse, score);
+        self.reverse = floats::max(self.reverse, score);
         self
     }
 
     pub fn score(self) -> f32
         ensures { result ≡ max_number self.forward self.reverse }
     {
-        floats::max_f32(self.forward, self.reverse)
+        floats::max(self.forward, self.reverse)
     }
 
     pub fn is_decoy(self) -> bool
         ensures { result ≡ le self.forward self.reverse }
     {
         self.reverse >= self.forward
+    }
+}
+
+impl Default for Competition {
+    ghost is_default = { λ entry. entry ≡ record { forward = f32_min; reverse = f32_min } };
+
+    fn default() -> Self {
+        Self {
+            forward: Self::UNSEEN,
+            reverse: Self::UNSEEN,
+        }
     }
 }

@@ -1,6 +1,6 @@
 -- A loop that counts decoys and targets down a list, without a branch: the test of a label is 0 or 1, which goes to the
 -- decoys, and what it lacks of 1 goes to the targets. The decoys start at 1, for the plus one.
-use mathlib.Core.Path.{◌≡◌, refl, ap, ◌∙◌}
+use mathlib.Core.Path.{◌≡◌, refl}
 use mathlib.Core.List.{List}
 use mathlib.Core.Bool.{Bool, true, false, cond}
 use Prim.Native.Nat.{ℕ, suc, ◌+◌, ◌-◌, ◌^◌, ◌≤◌, ◌<◌, zero-le}
@@ -10,7 +10,6 @@ use lib.Dec.{eqb, eqb→eq}
 use lib.IntN.{ℤ, pos, negsuc}
 use lib.Signed.{mag}
 use lib.ListN.{length, take, get_or}
-use lib.Seq.{take_all}
 use lib.Ieee.Fits.{eq→eqb}
 use mir.Syntax.{w32}
 use mir.Val.{of_z, bool_byte}
@@ -90,9 +89,6 @@ module _ {labels : List ℤ} {i count : ℕ} (w : Decoys labels i count) where
       let is = w.is in
       let high = w.high in
       omega (arith, row_counts i labels, mark_small labels i)
-
-  pub decoys_done : length labels ≤ i → count ≡ decoys labels
-  decoys_done h = w.is ∙ ap decoys (take_all i labels h)
 
 module _ {labels : List ℤ} {i decoy target : ℕ} (t : Tally labels i decoy target) (h : i < length labels) where
   pub next_decoy : decoy + mark labels i ≤ length labels + 1

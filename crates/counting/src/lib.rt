@@ -9,9 +9,9 @@ ghost use Rattle.counting.specs.Labels.{decoys};
 pub fn count_decoys(labels: &[i32]) -> usize
     ensures { result ≡ decoys labels.now }
 {
-    let mut decoys: usize = 0;
-    for i in 0..labels.len() {
-        decoys += (labels[i] == -1) as usize;
+    let mut decoys = 0;
+    for label in labels {
+        decoys += usize::from(*label == -1);
     }
     decoys
 }

@@ -6,11 +6,11 @@ use mathlib.Core.Bool.{Bool, true, false, cond}
 use Prim.Native.Nat.{ℕ, ◌*◌, ◌≤◌, ◌<◌}
 use native.Mathlib.Nat.{le_trans}
 use native.Mathlib.Omega.{arith}
-use lib.Dec.{T, eqb}
+use lib.Dec.{eqb}
 use lib.IntN.{ℤ, pos, negsuc}
 use lib.ListN.{length, get_or, take, drop, length-map, length-replicate, get_or-replicate}
 use lib.Seq.{take_at, length-take-le, length_front}
-use lib.Ieee.{Float, nan, binary32, fits, of_bits}
+use lib.Ieee.{Float, binary32, of_bits}
 use Rattle.folds.specs.Lists.{filled, tabulated}
 use Rattle.folds.specs.Inner.All.{All}
 use Rattle.folds.proofs.Writing.{tabulated_same, same_blank, all_map, all_at}
@@ -28,7 +28,7 @@ use Rattle.fdr.specs.declared.Settings.{Settings}
 use Rattle.fdr.specs.Sides.{Side, side_of, seen_sides, ranked_sides}
 use Rattle.fdr.specs.SideQValues.{ratios_from, side_q, side_label, passing}
 use Rattle.fdr.specs.NameQValues.{name_of, q_of, row_q, rows_q}
-use Rattle.fdr.specs.Inner.Passes.{side_key, key_side, with_numbers, key_number, capped_ratios, written_at_names, read_at_name, SlotInBounds, NamesInBounds, NumberBits, HoldsNumber, RatiosReady, AssignReady}
+use Rattle.fdr.specs.Inner.Passes.{side_key, key_side, with_numbers, key_number, capped_ratios, written_at_names, read_at_name, SlotInBounds, NamesInBounds, NumberBits, HoldsNumber, ScoresFit, RatiosReady, AssignReady}
 use Rattle.fdr.proofs.Numbers.{F32Number, ratios_fit, capped_numbers, minimum_numbers, length_ratios, hold_numbers, numbers_back, payload_stays, places_stay, written_over, running_minimum_capped}
 use Rattle.fdr.proofs.NameColumn.{name_in_bounds, names_read, names_bits, ones_bits, length_names, slots_in_bounds}
 use Rattle.fdr.proofs.Sides.{targets_sorted, seen_listed, seen_fit, listed_in_bounds, few_targets, sorted_sides}
@@ -36,13 +36,12 @@ use Rattle.fdr.proofs.Sides.{targets_sorted, seen_listed, seen_fit, listed_in_bo
 -- ---- the ranking and the two passes over its rows
 
 -- sorting leaves what the passes ask
-pub still_ready : {bins forward reverse : ℕ} (keys keys₁ : List ℕ) → keys₁ ≡ sorted keys
-    → RatiosReady bins forward reverse keys → RatiosReady bins forward reverse keys₁
-still_ready {bins} {forward} {reverse} keys keys₁ e w = record {
-  some = w.some;
-  few = w.few;
+pub still_ready : {bins : ℕ} {t : Table} (keys keys₁ : List ℕ) → keys₁ ≡ sorted keys → RatiosReady bins t keys
+    → RatiosReady bins t keys₁
+still_ready {bins} {t} keys keys₁ e w = record {
+  range = w.range;
   reverse_length = w.reverse_length;
-  in_bounds = rw e (all_sorted (SlotInBounds forward) keys w.in_bounds);
+  in_bounds = rw e (all_sorted (SlotInBounds (length t.forward)) keys w.in_bounds);
   countable = rw (e, targets_sorted keys) w.countable;
 }
 
@@ -111,8 +110,7 @@ labels_same t (k ∷ ks) = ap (λ (l : List ℤ). label_of k ∷ l) (labels_same
 pub record Packs (bins : List Float) (t : Table) (slots : List ℕ) (labels : List ℤ) (keys₀ spare₀ : List ℕ)
     (q₀ : List Float) (rows : ℕ) (keys₁ : List ℕ) : Type 0 where
   pub ready : AssignReady t (length bins) slots (length labels) (length keys₀) (length spare₀) (length q₀)
-  pub forward_fit : (i : ℕ) → T (fits binary32 (get_or t.forward i nan))
-  pub reverse_fit : (i : ℕ) → T (fits binary32 (get_or t.reverse i nan))
+  pub scores : ScoresFit t (length t.forward)
   pub few : rows ≤ length keys₀
   pub same : length keys₁ ≡ length keys₀
   pub front : take rows keys₁ ≡ map side_key (seen_sides t)
@@ -129,14 +127,13 @@ pub record Ranks (settings : Settings) (bins : List Float) (t : Table) (keys spa
 pub packs : (bins : List Float) {t : Table} {slots : List ℕ} (labels : List ℤ) (keys₀ spare₀ : List ℕ) (q₀ : List Float)
     {rows : ℕ} (keys₁ : List ℕ)
     → AssignReady t (length bins) slots (length labels) (length keys₀) (length spare₀) (length q₀)
-    → ((i : ℕ) → T (fits binary32 (get_or t.forward i nan)))
-    → ((i : ℕ) → T (fits binary32 (get_or t.reverse i nan)))
+    → ScoresFit t (length t.forward)
     → rows ≤ length keys₀
     → length keys₁ ≡ length keys₀
     → take rows keys₁ ≡ map side_key (seen_sides t)
     → Packs bins t slots labels keys₀ spare₀ q₀ rows keys₁
-packs bins labels keys₀ spare₀ q₀ keys₁ a f r h s k =
-    record { ready = a; forward_fit = f; reverse_fit = r; few = h; same = s; front = k }
+packs bins labels keys₀ spare₀ q₀ keys₁ a f h s k =
+    record { ready = a; scores = f; few = h; same = s; front = k }
 
 pub ranks : (settings : Settings) (bins : List Float) (t : Table) (keys spare : List ℕ) {count : ℕ}
     (keys₁ spare₁ : List ℕ)
@@ -159,12 +156,11 @@ module _ {bins : List Float} {t : Table} {slots : List ℕ} {labels : List ℤ} 
 
   -- what `rank` asks
   pub rank_asks : (length (take rows spare₀) ≡ length (take rows keys₁))
-      × RatiosReady (length bins) (length t.forward) (length t.reverse) (take rows keys₁)
+      × RatiosReady (length bins) t (take rows keys₁)
   rank_asks = (
     length-take-le rows spare₀ (omega (arith, w.few, w.ready.spare_length, w.ready.pack.keys_length)) ∙ sym part,
     record {
-      some = w.ready.some;
-      few = w.ready.few;
+      range = w.ready.range;
       reverse_length = w.ready.pack.lengths.reverse_length;
       in_bounds = in_bounds;
       countable = rw w.front (le_trans (few_targets t 0 (length t.forward)) w.ready.pack.short);
@@ -175,7 +171,7 @@ module _ {bins : List Float} {t : Table} {slots : List ℕ} {labels : List ℤ} 
   ks = sorted (take rows keys₁)
 
   ranked_are : map (key_side t) ks ≡ ranked_sides t
-  ranked_are = ap (λ (l : List ℕ). map (key_side t) (sorted l)) w.front ∙ sorted_sides t w.ready.pack.short (seen_fit t w.forward_fit w.reverse_fit)
+  ranked_are = ap (λ (l : List ℕ). map (key_side t) (sorted l)) w.front ∙ sorted_sides t w.ready.pack.short (seen_fit t w.scores)
 
   module _ {settings : Settings} {count : ℕ} {part₁ spare₁ : List ℕ}
       (r : Ranks settings bins t (take rows keys₁) (take rows spare₀) count part₁ spare₁) where
@@ -196,9 +192,6 @@ module _ {bins : List Float} {t : Table} {slots : List ℕ} {labels : List ℤ} 
     -- the keys that the other passes see
     front_is : take rows (part₁ ++ drop rows keys₁) ≡ with_numbers qs ks
     front_is = take_at part₁ (drop rows keys₁) rows (r.same_keys ∙ part) ∙ r.keys_are
-
-    pub front_length : rows ≡ length (take rows (part₁ ++ drop rows keys₁))
-    front_length = sym (ap length (take_at part₁ (drop rows keys₁) rows (r.same_keys ∙ part)) ∙ r.same_keys ∙ part)
 
     -- their names are places of a column of two entries per slot
     bounded : (n : ℕ) → n ≡ 2 * length t.forward → All (λ k. NamesInBounds n (place_of k)) (with_numbers qs ks)

@@ -1,6 +1,6 @@
 -- The pass from the last row up: the keys from i on hold the least number from their row on, and the count is of these
 -- rows.
-use mathlib.Core.Path.{◌≡◌, refl, sym, ap, ap₂, ◌∙◌, subst}
+use mathlib.Core.Path.{◌≡◌, refl, sym, ap, ap₂, ◌∙◌}
 use mathlib.Core.List.{List, [], ◌∷◌, map}
 use mathlib.Core.Bool.{not, cond, ◌&&◌}
 use Prim.Native.Nat.{ℕ, suc, ◌+◌, ◌≤◌, ◌<◌}
@@ -12,8 +12,6 @@ use lib.ListN.{length, get_or, take, drop, set, length-set}
 use lib.Seq.{drop-cons, drop-length, set_split, take-set-le, take-take, get_or-take, drop_at, length-take-le}
 use lib.Ieee.{Float, binary32, is_nan, le, of_bits}
 use mir.Val.{bool_byte}
-use Rattle.folds.specs.Inner.All.{All}
-use Rattle.folds.proofs.Writing.{all_at}
 use Rattle.folds.proofs.Tests.{byte_most}
 use Rattle.floats.specs.MinMax.{min_number}
 use Rattle.floats.specs.Ratio.{one_in}
@@ -22,7 +20,7 @@ use Rattle.counting.specs.QValues.{minimum, running_minimum, targets_at_most}
 use Rattle.counting.proofs.RunningMinimum.{minimum_number}
 use Rattle.ranking.specs.Inner.Layout.{decoy_bit, label_of}
 use Rattle.ranking.proofs.Packed.{pass_one}
-use Rattle.fdr.specs.Inner.Passes.{with_number, with_numbers, key_number, HoldsNumber}
+use Rattle.fdr.specs.Inner.Passes.{with_number, with_numbers, key_number}
 use Rattle.floats.proofs.Order.{min_number_lem}
 
 abbrev minima : List ℕ → List Float
@@ -56,12 +54,6 @@ module _ (keys₀ : List ℕ) where
       }
 
   module _ {i : ℕ} {least : Float} {passing : ℕ} {keys : List ℕ} (w : Minima i least passing keys) where
-    pub minima_done : i ≡ 0 → (passing ≡ passing_of keys₀) × (keys ≡ with_numbers (minima keys₀) keys₀)
-    minima_done e = (
-      w.count_is ∙ ap (λ (n : ℕ). passing_of (drop n keys₀)) e,
-      ap (λ (n : ℕ). drop n keys) (sym e) ∙ w.keys_are ∙ ap (λ (n : ℕ). with_numbers (minima (drop n keys₀)) (drop n keys₀)) e,
-    )
-
     -- the least is no NaN
     pub minima_number : (x m : Float) → m ≡ min_number least x → T (not (is_nan m))
     minima_number x m e =
@@ -72,9 +64,6 @@ module _ (keys₀ : List ℕ) where
       -- the key at the next place
       minima_key : get_or keys j 0 ≡ get_or keys₀ j 0
       minima_key = sym (get_or-take i keys j 0 (omega arith)) ∙ ap (λ (l : List ℕ). get_or l j 0) w.front ∙ get_or-take i keys₀ j 0 (omega arith)
-
-      pub minima_holds : All HoldsNumber keys₀ → HoldsNumber (get_or keys j 0)
-      minima_holds h = subst HoldsNumber (sym minima_key) (all_at HoldsNumber 0 keys₀ h j (omega (arith, w.high)))
 
       pub minima_step : (x m c : Float) (bit v : ℕ) → x ≡ key_number (get_or keys j 0) → m ≡ min_number least x
           → c ≡ one_in 100

@@ -2,7 +2,7 @@
 use mathlib.Core.Path.{◌≡◌, refl, sym, ap, ap₂, ◌∙◌, subst}
 use mathlib.Core.List.{List, [], ◌∷◌, map}
 use mathlib.Core.Bool.{Bool, true, false}
-use Prim.Native.Nat.{ℕ, zero, suc, ◌+◌, ◌*◌, ◌≤◌, ◌<◌, zero-le}
+use Prim.Native.Nat.{ℕ, zero, suc, ◌+◌, ◌*◌, ◌≤◌, ◌<◌}
 use native.Mathlib.Numerals.{add-one}
 use native.Mathlib.Omega.{arith}
 use lib.Dec.{eqb, lit<}
@@ -12,7 +12,7 @@ use lib.Seq.{drop-cons}
 use lib.Ieee.{binary32, is_nan, of_bits}
 use Rattle.floats.proofs.Fields.{bits_cond}
 use Rattle.folds.specs.Inner.All.{All}
-use Rattle.folds.proofs.Writing.{set_reads, all_at, all_set}
+use Rattle.folds.proofs.Writing.{set_reads, all_set}
 use Rattle.folds.proofs.Tests.{both_true}
 use Rattle.ranking.specs.Inner.Layout.{place_of, decoy_bit, upper_of}
 use Rattle.competition.proofs.Questions.{slot_in_bounds}
@@ -38,9 +38,6 @@ pub record Naming (names : Names) (keys column₀ : List ℕ) (i : ℕ) (column 
   pub same : length column ≡ length column₀
   pub is : written_at_names names (drop i keys) column ≡ written_at_names names keys column₀
 
-pub naming_start : (names : Names) (keys column : List ℕ) → Naming names keys column 0 column
-naming_start names keys column = record { high = zero-le; same = refl; is = refl }
-
 module _ (names : Names) (keys column₀ : List ℕ) {i : ℕ} {column : List ℕ} (w : Naming names keys column₀ i column)
   where
     pub naming_done : length keys ≤ i → column ≡ written_at_names names keys column₀
@@ -64,12 +61,6 @@ module _ (names : Names) (keys column₀ : List ℕ) {i : ℕ} {column : List �
             ∙ ap (λ (ks : List ℕ). written_at_names names ks column) (sym (drop-cons keys i 0 h))
             ∙ w.is;
       }
-
-      -- the name is one of the column's places
-      pub naming_in_bounds : (m : ℕ) → length column₀ ≡ m → All (λ k. NamesInBounds m (place_of k)) keys
-          → name < length column
-      naming_in_bounds m l all =
-          rw (e, w.same, l) (name_in_bounds names (place_of (get_or keys i 0)) _ m (all_at (λ k. NamesInBounds m (place_of k)) 0 keys all i h))
 
 -- ---- what a name reads
 

@@ -15,7 +15,7 @@ use Rattle.floats.specs.MinMax.{min_number}
 use Rattle.floats.specs.TotalOrder.{before}
 use Rattle.columns.specs.Refusals.{ranked_run}
 use Rattle.ranking.specs.Ranking.{inserted, ranked_from}
-use Rattle.columns.specs.declared.Counted.TheVariants.{Passing}
+use Rattle.std.specs.Prelude.{Ok}
 use Rattle.counting.specs.QValues.{minimum}
 use Rattle.counting.proofs.RunningMinimum.{running_minimum_rise}
 use Rattle.kde.specs.Bins.{estimator}
@@ -58,7 +58,7 @@ two_targets = table_of (fin false 1 (pos 1) ∷ fin false 1 (pos 0) ∷ []) (f32
 pub two_targets_lem : (names : Names) (a b c d e f g h : ℕ) (x y : Float)
     → assign_q_value (from_one names) halves two_targets (0 ∷ 1 ∷ []) (pos 1 ∷ pos 1 ∷ []) (a ∷ b ∷ c ∷ d ∷ [])
     (e ∷ f ∷ g ∷ h ∷ []) (x ∷ y ∷ [])
-    ≡ ranked_run (Passing 0) (0 ∷ 0 ∷ 0 ∷ 0 ∷ []) (0 ∷ 0 ∷ 0 ∷ 0 ∷ [])
+    ≡ ranked_run (Ok 0) (0 ∷ 0 ∷ 0 ∷ 0 ∷ []) (0 ∷ 0 ∷ 0 ∷ 0 ∷ [])
     (fin false 7 (negsuc 2) ∷ fin false 7 (negsuc 2) ∷ [])
 unfolding assign_q_value ranked_from inserted before le minimum min_number of_bits div add to_unsigned sub mul of_int
 two_targets_lem Two a b c d e f g h x y = refl

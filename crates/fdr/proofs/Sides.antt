@@ -23,7 +23,7 @@ use Rattle.ranking.proofs.Packed.{place_of_packed, bit_of_packed, decoy_of_packe
 use Rattle.ranking.proofs.Ranks.{AllF32, Rising, packed_from, sorted_ranks, in_list}
 use Rattle.competition.specs.Tables.{Table, is_seen}
 use Rattle.fdr.specs.Sides.{Side, side_of, sides_from, seen_sides, ranked_sides}
-use Rattle.fdr.specs.Inner.Passes.{side_payload, side_key, key_side, target_keys, SlotInBounds}
+use Rattle.fdr.specs.Inner.Passes.{side_payload, side_key, key_side, target_keys, SlotInBounds, ScoresFit}
 
 -- ---- keys in another order
 
@@ -128,19 +128,22 @@ listed_rises t lo hi (s ∷ ss) w (suc p) (suc q) l h = listed_rises t (suc (sid
 
 -- ---- scores of the format
 
-module _ (t : Table) (forward_fit : (i : ℕ) → T (fits binary32 (get_or t.forward i nan)))
-    (reverse_fit : (i : ℕ) → T (fits binary32 (get_or t.reverse i nan))) where
-  side_fit : (slot : ℕ) (decoy : Bool) → T (fits binary32 (side_of t slot decoy).score)
-  side_fit slot true = reverse_fit slot
-  side_fit slot false = forward_fit slot
+module _ (t : Table) (scores : ScoresFit t (length t.forward)) where
+  side_fit : (slot : ℕ) (decoy : Bool) → slot < length t.forward → T (fits binary32 (side_of t slot decoy).score)
+  side_fit slot true h = scores.reverse slot h
+  side_fit slot false h = scores.forward slot h
 
-  listed_fit : (lo hi : ℕ) (ss : List Side) → Listed t lo hi ss → AllF32 (map (λ (s : Side). s.score) ss)
-  listed_fit lo hi [] w = tt
-  listed_fit lo hi (s ∷ ss) w =
-      (subst (λ (x : Side). T (fits binary32 x.score)) w.0.of (side_fit s.slot s.decoy), listed_fit (suc (side_payload s)) hi ss w.1)
+  listed_fit : (lo n : ℕ) (ss : List Side) → n ≤ length t.forward → Listed t lo (n * 2) ss
+      → AllF32 (map (λ (s : Side). s.score) ss)
+  listed_fit lo n [] l w = tt
+  listed_fit lo n (s ∷ ss) l w =
+      let small : s.slot < length t.forward = omega (arith, w.0.high) in (
+        subst (λ (x : Side). T (fits binary32 x.score)) w.0.of (side_fit s.slot s.decoy small),
+        listed_fit (suc (side_payload s)) n ss l w.1,
+      )
 
   pub seen_fit : AllF32 (map (λ (s : Side). s.score) (seen_sides t))
-  seen_fit = listed_fit 0 (length t.forward * 2) (seen_sides t) (seen_listed t)
+  seen_fit = listed_fit 0 (length t.forward) (seen_sides t) (le_refl (length t.forward)) (seen_listed t)
 
 -- ---- the keys
 

@@ -1,19 +1,22 @@
 -- The pass that packs the seen sides: the keys so far are those of the slots passed.
-use mathlib.Core.Path.{◌≡◌, refl, sym, ap, ap₂, ◌∙◌}
+use mathlib.Core.Path.{◌≡◌, refl, sym, ap, ap₂, ◌∙◌, subst}
 use mathlib.Core.List.{List, [], ◌∷◌, ◌++◌, map, append-nil, append_assoc, map-append}
+use mathlib.Core.Logic.{inl, inr}
 use mathlib.Core.Bool.{Bool, true, false, cond}
-use Prim.Native.Nat.{ℕ, suc, ◌+◌, ◌-◌, ◌*◌, ◌≤◌, ◌<◌, zero-le}
+use Prim.Native.Nat.{ℕ, suc, ◌+◌, ◌-◌, ◌*◌, ◌≤◌, ◌<◌}
 use native.Mathlib.Nat.{le_refl, add-zero}
 use native.Mathlib.Numerals.{add-one}
 use native.Mathlib.Omega.{arith}
 use lib.ListN.{length, get_or, take, set}
 use lib.Seq.{take-suc-set, take-set-le}
-use lib.Ieee.{nan}
+use lib.Dec.{T}
+use lib.Ieee.{nan, binary32, fits}
 use mir.Val.{bool_byte}
+use Rattle.folds.proofs.Tests.{lt_or_ge}
 use Rattle.ranking.specs.Inner.Layout.{packed, payload}
 use Rattle.competition.specs.Tables.{Table, is_seen}
 use Rattle.fdr.specs.Sides.{Side, side_of, if_seen, slot_sides, sides_from, seen_sides}
-use Rattle.fdr.specs.Inner.Passes.{side_key}
+use Rattle.fdr.specs.Inner.Passes.{side_key, ScoresFit}
 
 -- a key is written always, and kept where its side is seen
 pub put_keeps : (seen : Bool) (keys : List ℕ) (rows key : ℕ) → rows < length keys
@@ -22,17 +25,19 @@ put_keeps true keys rows key h = ap (λ (n : ℕ). take n (set keys rows key)) (
 put_keeps false keys rows key h =
     ap (λ (n : ℕ). take n (set keys rows key)) (add-zero rows) ∙ take-set-le rows keys rows key (le_refl rows) ∙ sym (append-nil (take rows keys))
 
+-- one slot more
+up_to_next : (P : ℕ → Type 0) (n : ℕ) → ((i : ℕ) → i < n → P i) → P n → (i : ℕ) → i < n + 1 → P i
+up_to_next P n before here i h = elim (lt_or_ge i n) [
+  | inl k ↦ before i k
+  | inr k ↦ let e : n ≡ i = omega arith in subst P e here
+]
+
 pub record Packing (t : Table) (slot rows : ℕ) (keys : List ℕ) : Type 0 where
   pub high : slot ≤ length t.forward
   pub same : length keys ≡ 2 * length t.forward
   pub few : rows ≤ 2 * slot
+  pub scores : ScoresFit t slot
   pub is : take rows keys ++ map side_key (sides_from t slot (length t.forward - slot)) ≡ map side_key (seen_sides t)
-
-pub packing_start : (t : Table) (keys : List ℕ) → length keys ≡ 2 * length t.forward → Packing t 0 0 keys
-packing_start t keys e = record { high = zero-le; same = e; few = zero-le; is = ap (λ (n : ℕ). map side_key (sides_from t 0 n)) (minus_none (length t.forward)) }
-  where
-    minus_none : (n : ℕ) → n - 0 ≡ n
-    minus_none n = omega arith
 
 side_key_lem : (seen : Bool) (s : Side) (key : ℕ) → key ≡ side_key s
     → cond seen (key ∷ []) [] ≡ map side_key (cond seen (s ∷ []) [])
@@ -40,15 +45,17 @@ side_key_lem true s key e = ap (λ (k : ℕ). k ∷ []) e
 side_key_lem false s key e = refl
 
 pub packing_step : (t : Table) {slot rows : ℕ} {keys : List ℕ} → Packing t slot rows keys → slot < length t.forward
-    → {payload₁ payload₂ : ℕ} → payload₁ ≡ payload slot false → payload₂ ≡ payload slot true
-    → (key₁ rows₁ : ℕ) (keys₁ : List ℕ) → key₁ ≡ packed (get_or t.forward slot nan) payload₁ → rows₁ ≤ rows + 1
+    → T (fits binary32 (get_or t.forward slot nan)) → T (fits binary32 (get_or t.reverse slot nan))
+    → (key₁ rows₁ : ℕ) (keys₁ : List ℕ) → key₁ ≡ packed (get_or t.forward slot nan) (payload slot false)
+    → rows₁ ≤ rows + 1
     → take rows₁ keys₁ ≡ take rows keys ++ cond (is_seen (get_or t.forward_seen slot 0)) (key₁ ∷ []) []
-    → (key₂ rows₂ : ℕ) (keys₂ : List ℕ) → key₂ ≡ packed (get_or t.reverse slot nan) payload₂ → rows₂ ≤ rows₁ + 1
+    → (key₂ rows₂ : ℕ) (keys₂ : List ℕ) → key₂ ≡ packed (get_or t.reverse slot nan) (payload slot true)
+    → rows₂ ≤ rows₁ + 1
     → take rows₂ keys₂ ≡ take rows₁ keys₁ ++ cond (is_seen (get_or t.reverse_seen slot 0)) (key₂ ∷ []) []
     → length keys₂ ≡ length keys
     → Packing t (slot + 1) rows₂ keys₂
 unfolding sides_from
-packing_step t {slot} {rows} {keys} w h p₁ p₂ key₁ rows₁ keys₁ k₁ l₁ e₁ key₂ rows₂ keys₂ k₂ l₂ e₂ s =
+packing_step t {slot} {rows} {keys} w h f₁ f₂ key₁ rows₁ keys₁ k₁ l₁ e₁ key₂ rows₂ keys₂ k₂ l₂ e₂ s =
     let n = length t.forward in
     let seen = is_seen (get_or t.forward_seen slot 0) in
     let seen₂ = is_seen (get_or t.reverse_seen slot 0) in
@@ -57,13 +64,17 @@ packing_step t {slot} {rows} {keys} w h p₁ p₂ key₁ rows₁ keys₁ k₁ l�
     let later = sides_from t (suc slot) (n - suc slot) in
     let all : sides_from t slot (n - slot) ≡ slot_sides t slot ++ later = ap (sides_from t slot) (next n slot h) in
     let ours : A ++ B ≡ map side_key (slot_sides t slot) =
-    ap₂ (λ (x y : List ℕ). x ++ y) (side_key_lem seen (side_of t slot false) key₁ (k₁ ∙ ap (packed (get_or t.forward slot nan)) p₁))
-    (side_key_lem seen₂ (side_of t slot true) key₂ (k₂ ∙ ap (packed (get_or t.reverse slot nan)) p₂))
+    ap₂ (λ (x y : List ℕ). x ++ y) (side_key_lem seen (side_of t slot false) key₁ k₁)
+    (side_key_lem seen₂ (side_of t slot true) key₂ k₂)
     ∙ sym (map-append side_key (if_seen (get_or t.forward_seen slot 0) (side_of t slot false)) (if_seen (get_or t.reverse_seen slot 0) (side_of t slot true))) in
     record {
       high = omega arith;
       same = s ∙ w.same;
       few = omega (arith, w.few);
+      scores = record {
+        forward = up_to_next (λ i. T (fits binary32 (get_or t.forward i nan))) slot w.scores.forward f₁;
+        reverse = up_to_next (λ i. T (fits binary32 (get_or t.reverse i nan))) slot w.scores.reverse f₂;
+      };
       is = ap₂ (λ (x : List ℕ) (m : ℕ). x ++ map side_key (sides_from t m (n - m))) (e₂ ∙ ap (λ (x : List ℕ). x ++ B) e₁) (add-one slot)
           ∙ ap (λ (x : List ℕ). x ++ map side_key later) (append_assoc (take rows keys) A B)
           ∙ append_assoc (take rows keys) (A ++ B) (map side_key later)
@@ -76,9 +87,15 @@ packing_step t {slot} {rows} {keys} w h p₁ p₂ key₁ rows₁ keys₁ k₁ l�
     next n m l = omega arith
 
 pub packing_done : (t : Table) {slot rows : ℕ} {keys : List ℕ} → Packing t slot rows keys → length t.forward ≤ slot
-    → (rows ≤ 2 * length t.forward) × (take rows keys ≡ map side_key (seen_sides t))
+    → (rows ≤ 2 * length t.forward) × ((take rows keys ≡ map side_key (seen_sides t)) × ScoresFit t (length t.forward))
 unfolding sides_from
 packing_done t {slot} {rows} {keys} w h =
     let l = w.high in
     let z : length t.forward - slot ≡ 0 = omega arith in
-    (omega (arith, w.few), sym (append-nil (take rows keys)) ∙ ap (λ (n : ℕ). take rows keys ++ map side_key (sides_from t slot n)) (sym z) ∙ w.is)
+    let all : slot ≡ length t.forward = omega arith in (
+      omega (arith, w.few),
+      (
+        sym (append-nil (take rows keys)) ∙ ap (λ (n : ℕ). take rows keys ++ map side_key (sides_from t slot n)) (sym z) ∙ w.is,
+        subst (ScoresFit t) all w.scores,
+      ),
+    )

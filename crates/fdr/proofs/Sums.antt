@@ -1,9 +1,9 @@
 -- The pass down the ranked rows: the first i keys hold their ratios, and the sum and the count are those up to row i.
-use mathlib.Core.Path.{◌≡◌, refl, sym, ap, ap₂, ◌∙◌, subst}
+use mathlib.Core.Path.{◌≡◌, refl, sym, ap, ap₂, ◌∙◌}
 use mathlib.Core.List.{List, ◌∷◌, ◌++◌, append-nil}
 use mathlib.Core.Bool.{Bool, true, false, cond}
-use Prim.Native.Nat.{ℕ, suc, ◌+◌, ◌-◌, ◌≤◌, ◌<◌, zero-le}
-use native.Mathlib.Nat.{add-zero, zero-add, add_assoc}
+use Prim.Native.Nat.{ℕ, suc, ◌+◌, ◌-◌, ◌≤◌, ◌<◌}
+use native.Mathlib.Nat.{add-zero, add_assoc}
 use native.Mathlib.Numerals.{add-one}
 use native.Mathlib.Omega.{arith}
 use lib.Dec.{eqb}
@@ -11,8 +11,7 @@ use borrow.Author.Tests.{eqb-true, eqb-false}
 use lib.ListN.{length, get_or, take, drop, set, length-set, drop_of_length-le}
 use lib.Seq.{drop-cons, drop-set-lt, drop-drop, get_or-drop, take_all}
 use lib.Ieee.{Float, binary32, add, div, of_bits}
-use Rattle.folds.specs.Inner.All.{All}
-use Rattle.folds.proofs.Writing.{front_write, all_at}
+use Rattle.folds.proofs.Writing.{front_write}
 use Rattle.floats.specs.Constants.{f32_one}
 use Rattle.floats.specs.MinMax.{min_number}
 use Rattle.floats.specs.Ratio.{f32_of_count}
@@ -20,7 +19,7 @@ use Rattle.ranking.specs.Inner.Layout.{decoy_bit}
 use Rattle.competition.specs.Tables.{Table}
 use Rattle.fdr.specs.declared.Settings.{Settings}
 use Rattle.fdr.specs.SideQValues.{error_of, ratios_from}
-use Rattle.fdr.specs.Inner.Passes.{key_side, target_keys, with_number, with_numbers, capped_ratios, SlotInBounds}
+use Rattle.fdr.specs.Inner.Passes.{key_side, target_keys, with_number, with_numbers, capped_ratios}
 
 -- a target counts
 seen_one : (bit targets : ℕ) → bit < 2 → targets + (1 - bit) ≡ cond (eqb bit 1) targets (suc targets)
@@ -43,9 +42,6 @@ module _ (settings : Settings) (bins : List Float) (t : Table) (keys₀ : List �
     pub is : take i keys ++ with_numbers (capped_ratios settings bins t sum target (drop i keys₀)) (drop i keys₀)
         ≡ with_numbers (capped_ratios settings bins t f32_one 0 keys₀) keys₀
 
-  pub summing_start : Summing 0 (of_bits binary32 1065353216) 0 keys₀
-  summing_start = record { high = zero-le; same = refl; rest = refl; count = zero-add (target_keys keys₀); is = refl }
-
   module _ {i : ℕ} {sum : Float} {target : ℕ} {keys : List ℕ} (w : Summing i sum target keys) where
     pub summing_done : length keys₀ ≤ i → keys ≡ with_numbers (capped_ratios settings bins t f32_one 0 keys₀) keys₀
     unfolding ratios_from with_numbers
@@ -63,18 +59,6 @@ module _ (settings : Settings) (bins : List Float) (t : Table) (keys₀ : List �
         first l = get_or-drop i l 0 0 ∙ ap (λ (n : ℕ). get_or l n 0) (add-zero i)
 
     module _ (h : i < length keys₀) where
-      -- its slot is in the table
-      pub summing_in_bounds : (n : ℕ) → All (SlotInBounds n) keys₀ → SlotInBounds n (get_or keys i 0)
-      summing_in_bounds n all = subst (SlotInBounds n) (sym summing_key) (all_at (SlotInBounds n) 0 keys₀ all i h)
-
-      -- the next count is small enough to be a float
-      pub summing_few : (bit : ℕ) → bit ≡ decoy_bit (get_or keys i 0) → target + (1 - bit) ≤ target_keys keys₀
-      unfolding target_keys
-      summing_few bit e =
-          let c : target + target_keys (get_or keys₀ i 0 ∷ drop (suc i) keys₀) ≡ target_keys keys₀ =
-          ap (λ (ks : List ℕ). target + target_keys ks) (sym (drop-cons keys₀ i 0 h)) ∙ w.count in
-          rw (e, summing_key) (omega arith)
-
       pub summing_step : (score pep r : Float) (bit v : ℕ) → score ≡ (key_side t (get_or keys i 0)).score
           → pep ≡ error_of settings bins score → bit ≡ decoy_bit (get_or keys i 0) → (count : Float)
           → count ≡ f32_of_count (target + (1 - bit))

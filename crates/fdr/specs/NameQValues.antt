@@ -1,13 +1,10 @@
 -- The q-values of feature rows, by name. Document 01, module 5: "Each feature row gets the q of its slot's side; 1.0 if
 -- its name was never ranked."
-use Rattle.std.specs.Prelude.{List, [], ◌∷◌, Bool, cond, ◌&&◌, ℕ, ◌+◌, ◌*◌, leb, eqb, ℤ, pos, length, get_or, Float}
+use Rattle.std.specs.Prelude.{List, [], ◌∷◌, Bool, cond, ◌&&◌, ℕ, ◌+◌, ◌*◌, leb, eqb, ℤ, pos, length, get_or, Float, Ok, Err}
 use Rattle.std.specs.Float.{nan}
 use Rattle.folds.specs.Lists.{filled, tabulated}
 use Rattle.floats.specs.Constants.{f32_one}
-use Rattle.columns.specs.Refusals.{longest, if_not, answered, RankedRun, ranked_run}
-use Rattle.columns.specs.declared.Outcome.{Outcome}
-use Rattle.columns.specs.declared.Outcome.TheVariants.{Accepted}
-use Rattle.columns.specs.declared.Counted.TheVariants.{Passing, Refused}
+use Rattle.columns.specs.Refusals.{longest, Asked, if_not, answered, RankedRun, ranked_run}
 use Rattle.columns.specs.declared.Refusal.TheVariants.{TooLong, WrongLength, OutOfRange, NoSuchSlot}
 use Rattle.counting.specs.Labels.{is_decoy}
 use Rattle.kde.specs.Bins.{in_range}
@@ -46,14 +43,14 @@ rows_q settings bins t slots labels =
 
 -- questions 1, 2, 3 and 5, of a table, rows of these slots, and the lengths of bins, labels, working columns ("two
 -- entries per slot") and result
-abbrev pub assign_asked : Table → ℕ → List ℕ → ℕ → ℕ → ℕ → ℕ → Outcome
+abbrev pub assign_asked : Table → ℕ → List ℕ → ℕ → ℕ → ℕ → ℕ → Asked
 assign_asked t bins slots labels keys spare q =
     let rows = length slots in
     let sides = 2 * length t.forward in
     if_not (table_short t && (leb rows longest && leb labels longest)) TooLong
     (if_not (table_fits t && ((eqb labels rows && eqb q rows) && (eqb keys sides && eqb spare sides))) WrongLength
     (if_not (in_range bins) OutOfRange
-    (if_not (all_allowed (length t.forward) slots) NoSuchSlot Accepted)))
+    (if_not (all_allowed (length t.forward) slots) NoSuchSlot (Ok tt))))
 
 -- every row's q-value, and how many targets pass; a refusal leaves NaN. Working columns "hold 0 in every place
 -- afterwards, accepted or refused"
@@ -62,6 +59,6 @@ unfoldable pub assign_q_value : Settings → List Float → Table → List ℕ �
 unfolding all_allowed passing rows_q
 assign_q_value settings bins t slots labels keys spare q =
     answered (assign_asked t (length bins) slots (length labels) (length keys) (length spare) (length q))
-    (ranked_run (Passing (passing settings bins t)) (filled 0 keys) (filled 0 spare)
+    (ranked_run (Ok (passing settings bins t)) (filled 0 keys) (filled 0 spare)
     (rows_q settings bins t slots labels))
-    (λ r. ranked_run (Refused r) (filled 0 keys) (filled 0 spare) (filled nan q))
+    (λ r. ranked_run (Err r) (filled 0 keys) (filled 0 spare) (filled nan q))

@@ -15,7 +15,7 @@ fn name_of(names: Names, slot: usize, decoy: bool) -> usize
     ensures { result ≡ name_of names slot decoy }
 {
     match names {
-        Names::Two => slot * 2 + decoy as usize,
+        Names::Two => slot * 2 + usize::from(decoy),
         Names::One => slot,
     }
 }
@@ -27,11 +27,14 @@ pub fn name_q_values(names: Names, keys: &[u64], column: &mut [u64])
     ensures { let ones = filled 1065353216 column.old in
         column.new ≡ written_at_names names keys.now ones }
 {
-    columns::fill_u64(column, 0x3f80_0000);
-    for i in 0..keys.len() {
-        let key = keys[i];
-        let name = name_of(names, ranking::place_of(key), ranking::decoy_bit(key) == 1);
-        column[name] = ranking::upper_of(key) as u64;
+    column.fill(0x3f80_0000);
+    for key in keys {
+        let name = name_of(
+            names,
+            ranking::place_of(*key),
+            ranking::decoy_bit(*key) == 1,
+        );
+        column[name] = u64::from(ranking::upper_of(*key));
     }
 }
 

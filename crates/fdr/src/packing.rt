@@ -1,8 +1,23 @@
 // The keys of a table's seen sides.
-ghost use Rattle.std.specs.Prelude.{◌≡◌, ◌++◌, ◌∷◌, [], map, cond, ◌+◌, ◌≤◌, ◌<◌, length, take};
-ghost use Rattle.competition.specs.Tables.{is_seen, table_of};
+ghost use Rattle.std.specs.Prelude.{◌≡◌, ◌++◌, ◌∷◌, [], map, cond, ◌+◌, ◌≤◌, ◌<◌, T, length, take};
+ghost use Rattle.std.specs.Float.{binary32};
+ghost use Rattle.std.specs.Float.Ieee.{fits};
+ghost use Rattle.columns.specs.Refusals.{longest};
+ghost use Rattle.ranking.specs.Inner.Layout.{packed, payload};
+ghost use Rattle.competition.specs.Tables.{is_seen};
 ghost use Rattle.fdr.specs.Sides.{seen_sides};
-ghost use Rattle.fdr.specs.Inner.Passes.{side_key, PackReady};
+ghost use Rattle.fdr.specs.Inner.Passes.{side_key, ScoresFit, PackReady};
+
+use competition::Table;
+
+// A side's key: the slot is its place.
+fn side_key(score: f32, slot: usize, decoy: bool) -> u64
+    requires { slot ≤ longest }
+    ensures key { result ≡ packed score (payload slot decoy) }
+    ensures score { T (fits binary32 score) }
+{
+    ranking::key(score, ranking::payload(slot as u32, decoy))
+}
 
 // A key at the next place, which moves on only where the side is seen, so that no mark takes a branch.
 fn put(keys: &mut [u64], rows: usize, mark: u32, key: u64) -> usize
@@ -11,30 +26,23 @@ fn put(keys: &mut [u64], rows: usize, mark: u32, key: u64) -> usize
     ensures keys { take result keys.new ≡ take rows keys.old ++ cond (is_seen mark) (key ∷ []) [] }
 {
     keys[rows] = key;
-    rows + competition::is_seen(mark) as usize
+    rows + usize::from(competition::is_seen(mark))
 }
 
 // The key of every seen side, forward before reverse, slots in order; the slot is the key's place. Gives how many there
 // are.
-pub fn pack(
-    forward: &[f32],
-    reverse: &[f32],
-    forward_seen: &[u32],
-    reverse_seen: &[u32],
-    keys: &mut [u64],
-) -> usize
-    requires { let table = table_of forward.now reverse.now forward_seen.now reverse_seen.now in
-        PackReady table (length keys.old) }
+pub fn pack(table: &Table, keys: &mut [u64]) -> usize
+    requires { PackReady table.now (length keys.old) }
     ensures few { result ≤ length keys.old }
-    ensures keys { let table = table_of forward.now reverse.now forward_seen.now reverse_seen.now in
-        take result keys.new ≡ map side_key (seen_sides table) }
+    ensures keys { take result keys.new ≡ map side_key (seen_sides table.now) }
+    ensures scores { ScoresFit table.now (length table.now.forward) }
 {
-    let mut rows: usize = 0;
-    for slot in 0..forward.len() {
-        let forward_key = ranking::key(forward[slot], ranking::payload(slot as u32, false));
-        let reverse_key = ranking::key(reverse[slot], ranking::payload(slot as u32, true));
-        rows = put(keys, rows, forward_seen[slot], forward_key);
-        rows = put(keys, rows, reverse_seen[slot], reverse_key);
+    let mut rows = 0;
+    for slot in 0..table.forward.len() {
+        let forward_key = side_key(table.forward[slot], slot, false);
+        let reverse_key = side_key(table.reverse[slot], slot, true);
+        rows = put(keys, rows, table.forward_seen[slot], forward_key);
+        rows = put(keys, rows, table.reverse_seen[slot], reverse_key);
     }
     rows
 }

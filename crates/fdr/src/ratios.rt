@@ -1,5 +1,5 @@
 // The passes over the ranked keys: each row's ratio, and then its q-value, takes the score's place in its key.
-ghost use Rattle.std.specs.Prelude.{◌≡◌, [], map, not, ◌≤◌, ◌<◌, T, length};
+ghost use Rattle.std.specs.Prelude.{◌≡◌, map, not, ◌<◌, T, length};
 ghost use Rattle.std.specs.Float.Ieee.{is_nan};
 ghost use Rattle.folds.specs.Inner.All.{All};
 ghost use Rattle.floats.specs.Constants.{f32_one};
@@ -7,12 +7,13 @@ ghost use Rattle.floats.specs.Ratio.{one_in};
 ghost use Rattle.counting.specs.QValues.{running_minimum, targets_at_most};
 ghost use Rattle.ranking.specs.Sorted.{sorted};
 ghost use Rattle.ranking.specs.Inner.Layout.{place_of, label_of};
-ghost use Rattle.competition.specs.Tables.{table_of};
+ghost use Rattle.kde.specs.Bins.{InRange};
 ghost use Rattle.fdr.specs.SideQValues.{error_of, side_q};
 ghost use Rattle.fdr.specs.Inner.Passes.{key_side, with_number, with_numbers, key_number, capped_ratios};
 ghost use Rattle.fdr.specs.Inner.Passes.{HoldsNumber, RatiosReady};
 
 use crate::Settings;
+use competition::Table;
 
 // The key with a number in the score's place.
 fn with_number(key: u64, q: f32) -> u64
@@ -30,20 +31,20 @@ fn key_number(key: u64) -> f32
 }
 
 // The score of a key's side.
-fn score_of(forward: &[f32], reverse: &[f32], key: u64) -> f32
-    requires { (place_of key < length forward.now) × (length reverse.now ≡ length forward.now) }
-    ensures { result ≡ (key_side (table_of forward.now reverse.now [] []) key).score }
+fn score_of(table: &Table, key: u64) -> f32
+    requires { (place_of key < length table.now.forward) × (length table.now.reverse ≡ length table.now.forward) }
+    ensures { result ≡ (key_side table.now key).score }
 {
     let slot = ranking::place_of(key);
     if ranking::decoy_bit(key) == 1 {
-        return reverse[slot];
+        return table.reverse[slot];
     }
-    forward[slot]
+    table.forward[slot]
 }
 
 // A score's posterior error, narrowed.
 fn error_of(settings: Settings, bins: &[f64], score: f32) -> f32
-    requires { (1 ≤ length bins.now) × (length bins.now ≤ 65536) }
+    requires { InRange (length bins.now) }
     ensures { result ≡ error_of settings bins.now score }
 {
     let estimator = settings.estimator;
@@ -52,26 +53,19 @@ fn error_of(settings: Settings, bins: &[f64], score: f32) -> f32
 
 // Down the ranked rows: the sum of the posterior errors, over the targets so far, takes the place of the score. A ratio
 // above 1.0 and a NaN are written as 1.0: the minimum starts there, so that it comes out the same.
-fn write_ratios(
-    settings: Settings,
-    bins: &[f64],
-    forward: &[f32],
-    reverse: &[f32],
-    keys: &mut [u64],
-)
-    requires { RatiosReady (length bins.now) (length forward.now) (length reverse.now) keys.old }
-    ensures { let table = table_of forward.now reverse.now [] [] in
-        let ratios = capped_ratios settings bins.now table f32_one 0 keys.old in
+fn write_ratios(settings: Settings, bins: &[f64], table: &Table, keys: &mut [u64])
+    requires { RatiosReady (length bins.now) table.now keys.old }
+    ensures { let ratios = capped_ratios settings bins.now table.now f32_one 0 keys.old in
         keys.new ≡ with_numbers ratios keys.old }
 {
     let mut decoy: f32 = 1.0;
     let mut target: u32 = 0;
     for i in 0..keys.len() {
         let key = keys[i];
-        let pep = error_of(settings, bins, score_of(forward, reverse, key));
+        let pep = error_of(settings, bins, score_of(table, key));
         decoy += pep;
         target += 1 - ranking::decoy_bit(key);
-        let q = floats::min_f32(1.0, decoy / floats::count_to_f32(target));
+        let q = floats::min(1.0, decoy / floats::count_to_f32(target));
         keys[i] = with_number(key, q);
     }
 }
@@ -85,14 +79,12 @@ fn take_minima(keys: &mut [u64]) -> usize
         keys.new ≡ with_numbers minima keys.old }
 {
     let mut q_min: f32 = 1.0;
-    let mut passing: usize = 0;
-    let mut i = keys.len();
-    while 0 < i {
-        i -= 1;
+    let mut passing = 0;
+    for i in (0..keys.len()).rev() {
         let key = keys[i];
-        q_min = floats::min_f32(q_min, key_number(key));
+        q_min = floats::min(q_min, key_number(key));
         keys[i] = with_number(key, q_min);
-        passing += ((q_min <= 0.01) & (ranking::decoy_bit(key) == 0)) as usize;
+        passing += usize::from((q_min <= 0.01) & (ranking::decoy_bit(key) == 0));
     }
     passing
 }
@@ -101,23 +93,20 @@ fn take_minima(keys: &mut [u64]) -> usize
 pub fn rank(
     settings: Settings,
     bins: &[f64],
-    forward: &[f32],
-    reverse: &[f32],
+    table: &Table,
     keys: &mut [u64],
     spare: &mut [u64],
 ) -> usize
     requires spare_len { length spare.old ≡ length keys.old }
-    requires ratios_ready { RatiosReady (length bins.now) (length forward.now) (length reverse.now) keys.old }
-    ensures count { let table = table_of forward.now reverse.now [] [] in
-        let ranked = sorted keys.old in
-        let qs = side_q settings bins.now (map (key_side table) ranked) in
+    requires ratios_ready { RatiosReady (length bins.now) table.now keys.old }
+    ensures count { let ranked = sorted keys.old in
+        let qs = side_q settings bins.now (map (key_side table.now) ranked) in
         result ≡ targets_at_most (one_in 100) (map label_of ranked) qs }
-    ensures keys { let table = table_of forward.now reverse.now [] [] in
-        let ranked = sorted keys.old in
-        let qs = side_q settings bins.now (map (key_side table) ranked) in
+    ensures keys { let ranked = sorted keys.old in
+        let qs = side_q settings bins.now (map (key_side table.now) ranked) in
         keys.new ≡ with_numbers qs ranked }
 {
     ranking::sort(keys, spare);
-    write_ratios(settings, bins, forward, reverse, keys);
+    write_ratios(settings, bins, table, keys);
     take_minima(keys)
 }

@@ -1,6 +1,6 @@
 -- The total order of floats, and the keys that stand as it does. A key is the sign with the magnitude's bits, and those
 -- bits grow with the magnitude: weakly since a number's leading digits do, and strictly since the bits tell the value.
-use Rattle.std.proofs.Common.{◌≡◌, ℕ, zero, suc, ◌+◌, ◌-◌, ◌*◌, ◌/◌, ◌%◌, ◌^◌, ◌<◌, ◌≤◌, Bool, true, false, cond, not, ◌&&◌, ◌||◌, T, eqb, ltb, ◌⊎◌, ℤ, sym, refl, ap, ◌∙◌, ap₂, inl, inr, zero-le, add_assoc, mul-le-mul_right, mod-lt, suc-mul, div-lt_iff_lt-mul, add-mul, eq-zero-or-pos, eq-or-lt_of_le, one-mul, le-div_iff_mul-le, zero-mul, mul_right_comm, arith, lit<, ltb→lt, lt→ltb, nltb→le, T_not, pow_pos, pow-add, le-ltb, lt-ltb}
+use Rattle.std.proofs.Common.{Less, Equal, Greater, nat_cmp, ◌≡◌, ℕ, zero, suc, ◌+◌, ◌-◌, ◌*◌, ◌/◌, ◌%◌, ◌^◌, ◌<◌, ◌≤◌, Bool, true, false, cond, not, ◌&&◌, ◌||◌, T, eqb, ltb, ◌⊎◌, ℤ, sym, refl, ap, ◌∙◌, ap₂, inl, inr, zero-le, add_assoc, mul-le-mul_right, mod-lt, suc-mul, div-lt_iff_lt-mul, add-mul, eq-zero-or-pos, eq-or-lt_of_le, one-mul, le-div_iff_mul-le, zero-mul, mul_right_comm, arith, lit<, ltb→lt, lt→ltb, ltb-false, nltb→le, T_not, pow_pos, pow-add, le-ltb, lt-ltb}
 use mathlib.Core.Bool.{and-true, and-false, or-false}
 use lib.Arith.{digits_div, digits_mod}
 use lib.Pow.{shr_mono}
@@ -11,9 +11,10 @@ use lib.Ieee.Bits.{of_bits-to_bits, to_bits-lt}
 use lib.Ieee.Compare.{differs_from_itself}
 use lib.Ieee.Nearest.{div_mono}
 use lib.Ieee.Positive.{num, den}
+use Rattle.std.specs.Ordering.{MatchOrdering}
+use Rattle.std.specs.Cmp.{nat_cmp_is}
 use Rattle.floats.specs.Signs.{negative}
 use Rattle.floats.specs.TotalOrder.{before, compared, order_key}
-use Rattle.floats.specs.declared.Ordering.TheVariants.{Less, Equal, Greater}
 use denote.Floats.{passes}
 use Rattle.folds.proofs.Tests.{same_test, yes_or_no, or_split, or_l}
 use Rattle.floats.proofs.Signs.{absolute, absolute_fits, bits_sign, magnitude_lt}
@@ -345,22 +346,19 @@ pub signed_below : (f : Format) (x : Float) → fits f x ≡ true
     → to_bits f x / top f * (to_bits f x % top f + to_bits f x % top f + 1) < 2 * top f
 signed_below f x p = omega (arith, signed_fits f x p, mod-lt (to_bits f x) (top_pos f))
 
--- two floats compare as their keys a and b do: the answer by each test of the code
-pub record ByKeys (x y : Float) (a b : ℕ) : Type 0 where
-  pub less : a < b → Less ≡ compared x y
-  pub greater : b ≤ a → b < a → Greater ≡ compared x y
-  pub equal : b ≤ a → a ≤ b → Equal ≡ compared x y
-
 compared_is : (f : Format) (x y : Float) → T (fits f x) → T (fits f y)
     → compared x y
     ≡ cond (ltb (order_key f x) (order_key f y)) Less (cond (ltb (order_key f y) (order_key f x)) Greater Equal)
 unfolding compared
 compared_is f x y p q = rw (key_orders f x y p q, key_orders f y x q p)
 
-pub by_keys : (f : Format) {x y : Float} {a b : ℕ} → fits f x ≡ true → fits f y ≡ true → a ≡ order_key f x
-    → b ≡ order_key f y → ByKeys x y a b
-by_keys f {x} {y} {a} {b} p q i j = let e = compared_is f x y (passes _ p) (passes _ q) in record {
-  less = λ h. rw (e, ← i, ← j, lt-ltb a b h);
-  greater = λ h l. rw (e, ← i, ← j, le-ltb a b h, lt-ltb b a l);
-  equal = λ h l. rw (e, ← i, ← j, le-ltb a b h, le-ltb b a l);
-}
+-- two floats compare as their keys a and b do
+pub by_keys : (f : Format) (x y : Float) (a b : ℕ) → T (fits f x) → T (fits f y) → a ≡ order_key f x
+    → b ≡ order_key f y → compared x y ≡ nat_cmp a b
+by_keys f x y a b p q i j = nat_cmp_is a b (compared x y) (rw (compared_is f x y p q, ← i, ← j) (go (ltb a b) (ltb b a) refl refl))
+  where
+    go : (s t : Bool) → ltb a b ≡ s → ltb b a ≡ t
+        → MatchOrdering (cond s Less (cond t Greater Equal)) (a < b) (a ≡ b) (b < a)
+    go true t h k = ltb→lt a b (passes _ h)
+    go false true h k = ltb→lt b a (passes _ k)
+    go false false h k = omega (arith, ltb-false a b h, ltb-false b a k)

@@ -10,12 +10,12 @@ use mir.ValLaws.{to_z-of_z}
 use denote.Floats.{passes}
 use lib.Ieee.{Float, nan, inf, fin, Format, binary32, binary64, prec, up, down, below, level, round, neg, sub, lt, le, eq}
 use lib.Ieee.{of_int, to_signed, to_unsigned, in_float, fits, is_nan}
-use lib.Ieee.Fits.{down_pos, neg-fits, and_i, round-fits, fits_widens}
+use lib.Ieee.Fits.{down_pos, neg-fits, and_i, and_l, and_r, round-fits, fits_widens}
 use lib.Ieee.Bits.{is_true}
 use lib.Ieee.Exact.{HasValue}
 use lib.Ieee.Back.{round_whole}
 use lib.Ieee.Scale.{round_same}
-use Rattle.floats.specs.Whole.{ceiling, floored, ceiled}
+use Rattle.floats.specs.Whole.{ceiling, whole_limit, may_have_fraction, floored, ceiled}
 use Rattle.floats.proofs.Values.{in_format, round_self, value_unique}
 use Rattle.floats.proofs.Order.{gain, loss}
 use Rattle.floats.proofs.Fractions.{lt_at, eq_at, le_at, add_at, neg_value, neg_le, neg_neg, neg_round}
@@ -60,9 +60,6 @@ large : (f : Format) (s : Bool) (m : ℕ) (e : ℤ) → T (fits f (fin s m e)) �
 large f s m e t h = let w = no_fraction f s m e t h in fixed f s m e w.0 t w.1
 
 -- ---- the two tests that lead to an answer of x itself
-abbrev pub whole_limit : Format → Bool → Float
-whole_limit f s = fin s 1 (pos (prec f - 1))
-
 bare : (p a d : ℕ) → ltb (a * 1) (1 * p * d) ≡ false → p * d ≤ a
 bare p a d h = rw (one-mul, mul-one) at (ltb-false (a * 1) (1 * p * d) h)
 
@@ -235,6 +232,14 @@ stored true (suc k) h = to_z-of_z w64 (negsuc k) (record { sfits = le_of_lt h })
 abbrev pub StoredCut : Format → Float → ℤ → Type 0
 StoredCut f x z = Cut f x (to_z w64 (of_z w64 z))
 
+-- x cut to an integer, which passes through 64 bits unchanged
+kept : (f : Format) (x : Float) → Inside f x → to_z w64 (of_z w64 (to_signed 63 x)) ≡ to_signed 63 x
+kept f nan h = elim h [ ]
+kept f (inf _) h = elim h [ ]
+kept f (fin s m e) h =
+    let small : m * up e / down e < 2 ^ (prec f - 1) = (div-lt_iff_lt-mul (down_pos e)).1 h in
+    rw (cut_is f s m e small) (stored s (m * up e / down e) (omega (arith, in_63 f)))
+
 cut_inside : (f : Format) (x : Float) (z : ℤ) → T (fits f x) → Inside f x → z ≡ to_signed 63 x → StoredCut f x z
 cut_inside f nan z t h k = elim h [ ]
 cut_inside f (inf _) z t h k = elim h [ ]
@@ -243,7 +248,7 @@ cut_inside f (fin s m e) z t h k =
     let small : q < 2 ^ (prec f - 1) = (div-lt_iff_lt-mul (down_pos e)).1 h in
     rw (k, cut_is f s m e small, stored s q (omega (arith, in_63 f))) (below_limit f m e q refl (omega (arith, doubled f)) s t)
 
--- ---- what the code of each width relies on, from its first test to its answers
+-- ---- what the code relies on, from its first test to its answers
 pub record FloorCode (f : Format) (x : Float) : Type 0 where
   pub from_limit : lt x (whole_limit f false) ≡ false → x ≡ floored f x
   pub to_limit : lt (whole_limit f true) x ≡ false → x ≡ floored f x
@@ -251,6 +256,8 @@ pub record FloorCode (f : Format) (x : Float) : Type 0 where
       → T (le (fin true 1 (pos 63)) x) × T (lt x (fin false 1 (pos 63)))
   pub cut : lt x (whole_limit f false) ≡ true → lt (whole_limit f true) x ≡ true → {z : ℤ} → z ≡ to_signed 63 x
       → StoredCut f x z
+  pub kept : lt x (whole_limit f false) ≡ true → lt (whole_limit f true) x ≡ true
+      → to_z w64 (of_z w64 (to_signed 63 x)) ≡ to_signed 63 x
 
 pub floor_code : (f : Format) (x : Float) → fits f x ≡ true → FloorCode f x
 floor_code f x e = let t = passes (fits f x) e in record {
@@ -258,7 +265,51 @@ floor_code f x e = let t = passes (fits f x) e in record {
   to_limit = floor_below f x t;
   castable = λ h k. castable f x (inside f x h k);
   cut = λ h k {z} w. cut_inside f x z t (inside f x h k) w;
+  kept = λ h k. kept f x (inside f x h k);
 }
+
+-- of `floor`: from the limits on x stays
+pub stays : (f : Format) {x : Float} {small : Bool} → T (fits f x) → small ≡ may_have_fraction f x → small ≡ false
+    → x ≡ floored f x
+stays f {x} t i h = go (lt x (whole_limit f false)) (lt (whole_limit f true) x) refl refl (sym i ∙ h)
+  where
+    go : (a b : Bool) → lt x (whole_limit f false) ≡ a → lt (whole_limit f true) x ≡ b → (a && b) ≡ false
+        → x ≡ floored f x
+    go true true i j h = absurd (true≢false h)
+    go true false i j h = (floor_code f x (is_true _ t)).to_limit j
+    go false b i j h = (floor_code f x (is_true _ t)).from_limit i
+
+-- between the limits
+module _ (f : Format) (x : Float) (t : fits f x ≡ true) (h : T (may_have_fraction f x)) where
+  code : FloorCode f x
+  code = floor_code f x t
+
+  under : lt x (whole_limit f false) ≡ true
+  under = is_true _ (and_l (lt x (whole_limit f false)) (lt (whole_limit f true) x) h)
+
+  over : lt (whole_limit f true) x ≡ true
+  over = is_true _ (and_r (lt x (whole_limit f false)) (lt (whole_limit f true) x) h)
+
+  -- of `cut`
+  pub cut_castable : T (le (fin true 1 (pos 63)) x) × T (lt x (fin false 1 (pos 63)))
+  cut_castable = code.castable under over
+
+  pub cut_exact : {z : ℤ} → z ≡ to_signed 63 x → T (in_float f (to_z w64 (of_z w64 z)))
+  cut_exact e = (code.cut under over e).exact
+
+  cut_known : Cut f x (to_signed 63 x)
+  cut_known = subst (λ (z : ℤ). Cut f x z) (code.kept under over) (code.cut under over refl)
+
+-- of `floor`: the cut w is compared with x
+pub record Picked (f : Format) (x w : Float) : Type 0 where
+  pub same : eq w x ≡ true → x ≡ floored f x
+  pub less : lt w x ≡ true → w ≡ floored f x
+  pub more : eq w x ≡ false → lt w x ≡ false → sub f w (fin false 1 (pos 0)) ≡ floored f x
+
+pub picked : (f : Format) {x w : Float} {small : Bool} → T (fits f x) → small ≡ may_have_fraction f x → small ≡ true
+    → w ≡ of_int f (to_signed 63 x) → Picked f x w
+picked f {x} t i h e =
+    let k = cut_known f x (is_true _ t) (passes _ (sym i ∙ h)) in rw e (record { same = k.same; less = k.less; more = k.more })
 
 -- ---- the ceiling
 -- the ceiling is the floor's negative of the negative

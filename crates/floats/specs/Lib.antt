@@ -5,3 +5,4 @@ pub mod Whole
 pub mod MinMax
 pub mod TotalOrder
 pub mod Ratio
+pub mod Laws

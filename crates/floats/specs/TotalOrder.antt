@@ -1,11 +1,11 @@
 -- The total order of floats. Document 01, module 1: "total_cmp"; IEEE 754-2019, 5.10, totalOrder, with one NaN, above
 -- all.
 use Rattle.std.specs.Prelude.{ℕ, ◌+◌, ◌-◌, ◌*◌, Bool, true, false, cond, not, ◌&&◌, ◌||◌, ℤ, pos, negsuc, Float}
+use Rattle.std.specs.declared.cmp.Ordering.{Ordering}
+use Rattle.std.specs.declared.cmp.Ordering.TheVariants.{Less, Equal, Greater}
 use Rattle.std.specs.Float.{nan, inf, fin, Format}
 use Rattle.std.specs.Float.Ieee.{lt, eq, top, to_bits}
 use Rattle.floats.specs.Signs.{negative}
-use Rattle.floats.specs.declared.Ordering.{Ordering}
-use Rattle.floats.specs.declared.Ordering.TheVariants.{Less, Equal, Greater}
 
 -- By value, and −0 before +0: −infinity, …, −0, +0, …, +infinity, NaN.
 unfoldable pub before : Float → Float → Bool

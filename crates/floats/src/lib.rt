@@ -3,15 +3,178 @@
 // of the toolchain's IEEE 754.
 #![tactic(auto)]
 
-ghost use Rattle.std.specs.Prelude.{◌≡◌, ◌≤◌, false, not, T, pos, negsuc, is_nan};
-ghost use Rattle.std.specs.Float.{binary32, binary64, fin};
-ghost use Rattle.std.specs.Float.Ieee.{to_unsigned, lt, le};
+ghost use Rattle.std.specs.Prelude.{◌≡◌, ◌≤◌, ℕ, false, not, T, pos, negsuc, is_nan};
+ghost use Rattle.std.specs.Ordering.{partial_lt, nat_cmp};
+ghost use Rattle.std.specs.Float.{Float as Number, Format, binary32, binary64, fin};
+ghost use Rattle.std.specs.Float.Ieee.{fits, of_int, to_signed, to_unsigned, lt, le, eq, neg, sub};
 ghost use Rattle.floats.specs.Signs.{negative};
 ghost use Rattle.floats.specs.Convert.{converted};
-ghost use Rattle.floats.specs.Whole.{floored, ceiled};
+ghost use Rattle.floats.specs.Whole.{may_have_fraction, floored, ceiled};
 ghost use Rattle.floats.specs.MinMax.{min_number, max_number};
 ghost use Rattle.floats.specs.TotalOrder.{compared, sign_of, order_key};
 ghost use Rattle.floats.specs.Ratio.{f32_of_count};
+ghost use Rattle.floats.specs.Laws.{less_is};
+ghost use Rattle.std.proofs.Common.{refl};
+
+use std::cmp::Ordering;
+use std::num::{truncating_f32_to_i64, truncating_f64_to_i64, truncating_f64_to_u64};
+use std::ops::{Neg, Sub};
+
+// f32 or f64: a format, the operators, and the few steps that each takes with constants or integers of its own. That a
+// value is a float of its format is in their clauses, since a proof over every such type could not know it.
+pub trait Float: Copy + PartialOrd + Neg<Output = Self> + Sub<Output = Self> + Into<f64> {
+    // The unsigned integer of as many bits.
+    type Key: Copy + Ord;
+
+    ghost format: { Format };
+
+    // a value as the definitions see it, and a key as a number
+    ghost number: { Self → Number };
+
+    ghost key: { Self.Key → ℕ };
+
+    const ONE: Self;
+
+    ghost ONE: { Self };
+
+    // Whether it is below the power of two from which on every float is whole, and above its negative.
+    fn may_have_fraction(self) -> bool
+        ensures test { result ≡ may_have_fraction format (number self) }
+        ensures in_format { T (fits format (number self)) };
+
+    // The whole number that is left without the fraction.
+    fn cut(self) -> Self
+        requires { T (may_have_fraction format (number self)) }
+        ensures { number result ≡ of_int format (to_signed 63 (number self)) };
+
+    // A number that stands among the numbers as the float stands among the floats: the bits without the sign, upwards
+    // from the middle, or downwards where the sign is on. The sign is a factor and not a branch. Each type has its own
+    // body, since one for both would need two laws of each of five operators of Key.
+    fn order_key(self) -> Self::Key
+        ensures key { key result ≡ order_key format (number self) }
+        ensures in_format { T (fits format (number self)) };
+
+    // The operators and the conversion are IEEE 754's, and keys compare as numbers.
+    ghost one: { number ONE ≡ fin false 1 (pos 0) };
+
+    ghost equals: { (a b : Self) → Self.eq a b ≡ eq (number a) (number b) };
+
+    ghost less: { (a b : Self) → partial_lt Self.partial_cmp a b ≡ lt (number a) (number b) };
+
+    ghost can_negate: { (a : Self) → Self.can_neg a };
+
+    ghost negates: { (a r : Self) → Self.neg_gives a r → number r ≡ neg (number a) };
+
+    ghost can_subtract: { (a b : Self) → Self.can_sub a b };
+
+    ghost subtracts: { (a b r : Self) → Self.sub_gives a b r → number r ≡ sub format (number a) (number b) };
+
+    ghost widens: { (a : Self) (r : Number) → Self.converts a r → r ≡ number a };
+
+    ghost keys_compare: { (x y : Self.Key) → Self.Key.cmp x y ≡ nat_cmp (key x) (key y) };
+}
+
+impl Float for f32 {
+    type Key = u32;
+
+    ghost format = { binary32 };
+
+    ghost number = { λ x. x };
+
+    ghost key = { λ k. k };
+
+    const ONE: f32 = 1.0;
+
+    ghost ONE = { fin false 1 (pos 0) };
+
+    // from 2^23 on
+    fn may_have_fraction(self) -> bool {
+        self < 8388608.0 && self > -8388608.0
+    }
+
+    fn cut(self) -> f32 {
+        truncating_f32_to_i64(self) as f32
+    }
+
+    fn order_key(self) -> u32 {
+        if self != self {
+            return 0xffc0_0000;
+        }
+        let bits = f32::to_bits(self);
+        let size = bits % 0x8000_0000;
+        let sign = bits / 0x8000_0000;
+        size + 0x8000_0000 - sign * (size + size + 1)
+    }
+
+    ghost one = { refl };
+
+    ghost equals = { λ a b. refl };
+
+    ghost less = { less_is };
+
+    ghost can_negate = { λ a. tt };
+
+    ghost negates = { λ a r h. h };
+
+    ghost can_subtract = { λ a b. tt };
+
+    ghost subtracts = { λ a b r h. h };
+
+    ghost widens = { λ a r h. h };
+
+    ghost keys_compare = { λ x y. refl };
+}
+
+impl Float for f64 {
+    type Key = u64;
+
+    ghost format = { binary64 };
+
+    ghost number = { λ x. x };
+
+    ghost key = { λ k. k };
+
+    const ONE: f64 = 1.0;
+
+    ghost ONE = { fin false 1 (pos 0) };
+
+    // from 2^52 on
+    fn may_have_fraction(self) -> bool {
+        self < 4503599627370496.0 && self > -4503599627370496.0
+    }
+
+    fn cut(self) -> f64 {
+        truncating_f64_to_i64(self) as f64
+    }
+
+    fn order_key(self) -> u64 {
+        if self != self {
+            return 0xfff8_0000_0000_0000;
+        }
+        let bits = f64::to_bits(self);
+        let size = bits % 0x8000_0000_0000_0000;
+        let sign = bits / 0x8000_0000_0000_0000;
+        size + 0x8000_0000_0000_0000 - sign * (size + size + 1)
+    }
+
+    ghost one = { refl };
+
+    ghost equals = { λ a b. refl };
+
+    ghost less = { less_is };
+
+    ghost can_negate = { λ a. tt };
+
+    ghost negates = { λ a r h. h };
+
+    ghost can_subtract = { λ a b. tt };
+
+    ghost subtracts = { λ a b r h. h };
+
+    ghost widens = { λ a r h. h };
+
+    ghost keys_compare = { λ x y. refl };
+}
 
 // The f32 nearest to a magnitude, ties to even, as an f64.
 //
@@ -26,7 +189,7 @@ fn nearest_f32(size: f64) -> f64
         return 1.0 / 0.0;
     }
     let exponent = f64::to_bits(size) / 0x10_0000_0000_0000;
-    let power = max_f64(
+    let power = max(
         6.310887241768095e-30,
         f64::from_bits((exponent + 29) * 0x10_0000_0000_0000),
     );
@@ -50,7 +213,7 @@ pub fn narrow(x: f64) -> f32
 pub fn widen(x: f32) -> f64
     ensures { result ≡ converted binary64 x }
 {
-    std::num::f32_to_f64_with_nan(x)
+    f64::from(x)
 }
 
 // A count as an f32: exact up to 2^24.
@@ -74,103 +237,53 @@ pub fn whole_part(x: f64) -> u64
 }
 
 // Rust's `x as u64`: toward zero, to the nearest end of the range where x is out of it, 0 for a NaN.
-pub fn f64_to_u64(x: f64) -> u64
-    ensures { result ≡ to_unsigned 64 x }
+pub fn to_u64<F: Float>(x: F) -> u64
+    ensures { result ≡ to_unsigned 64 (F.number x) }
 {
-    if x >= 9007199254740992.0 {
-        if x >= 18446744073709551616.0 {
+    let wide: f64 = x.into();
+    if wide >= 9007199254740992.0 {
+        if wide >= 18446744073709551616.0 {
             return u64::MAX;
         }
-        return std::num::truncating_f64_to_u64(x);
+        return truncating_f64_to_u64(wide);
     }
-    whole_part(max_f64(0.5, x))
-}
-
-pub fn f32_to_u64(x: f32) -> u64
-    ensures { result ≡ to_unsigned 64 x }
-{
-    f64_to_u64(std::num::f32_to_f64_with_nan(x))
+    whole_part(max(0.5, wide))
 }
 
 // Rust's `x as usize`.
-pub fn f64_to_usize(x: f64) -> usize
-    ensures { result ≡ to_unsigned 64 x }
+pub fn to_usize<F: Float>(x: F) -> usize
+    ensures { result ≡ to_unsigned 64 (F.number x) }
 {
-    f64_to_u64(x) as usize
+    to_u64(x) as usize
 }
 
-pub fn f32_to_usize(x: f32) -> usize
-    ensures { result ≡ to_unsigned 64 x }
+// The greatest whole number not above x.
+pub fn floor<F: Float>(x: F) -> F
+    ensures { F.number result ≡ floored F.format (F.number x) }
 {
-    f32_to_u64(x) as usize
-}
-
-// The greatest whole number not above x. From 2^52 on every f64 is whole.
-pub fn floor_f64(x: f64) -> f64
-    ensures { result ≡ floored binary64 x }
-{
-    if x < 4503599627370496.0 {
-        if x > -4503599627370496.0 {
-            let whole = std::num::truncating_f64_to_i64(x) as f64;
-            if whole == x {
-                return x;
-            }
-            if whole < x {
-                return whole;
-            }
-            return whole - 1.0;
+    if x.may_have_fraction() {
+        let whole = x.cut();
+        if whole == x {
+            return x;
         }
-    }
-    x
-}
-
-// From 2^23 on every f32 is whole.
-pub fn floor_f32(x: f32) -> f32
-    ensures { result ≡ floored binary32 x }
-{
-    if x < 8388608.0 {
-        if x > -8388608.0 {
-            let whole = std::num::truncating_f32_to_i64(x) as f32;
-            if whole == x {
-                return x;
-            }
-            if whole < x {
-                return whole;
-            }
-            return whole - 1.0;
+        if whole < x {
+            return whole;
         }
+        return whole - F::ONE;
     }
     x
 }
 
 // The least whole number not below x.
-pub fn ceil_f64(x: f64) -> f64
-    ensures { result ≡ ceiled binary64 x }
+pub fn ceil<F: Float>(x: F) -> F
+    ensures { F.number result ≡ ceiled F.format (F.number x) }
 {
-    -floor_f64(-x)
-}
-
-pub fn ceil_f32(x: f32) -> f32
-    ensures { result ≡ ceiled binary32 x }
-{
-    -floor_f32(-x)
+    -floor(-x)
 }
 
 // Rust's a.min(b), with `a` accumulated: a NaN is ignored, and of two zeros the first is kept.
-pub fn min_f64(a: f64, b: f64) -> f64
-    ensures { result ≡ min_number a b }
-{
-    if b < a {
-        return b;
-    }
-    if a != a {
-        return b;
-    }
-    a
-}
-
-pub fn min_f32(a: f32, b: f32) -> f32
-    ensures { result ≡ min_number a b }
+pub fn min<F: Float>(a: F, b: F) -> F
+    ensures { F.number result ≡ min_number (F.number a) (F.number b) }
 {
     if b < a {
         return b;
@@ -182,8 +295,8 @@ pub fn min_f32(a: f32, b: f32) -> f32
 }
 
 // Rust's a.max(b), with `a` accumulated: a NaN is ignored, and of two zeros the first is kept.
-pub fn max_f64(a: f64, b: f64) -> f64
-    ensures { result ≡ max_number a b }
+pub fn max<F: Float>(a: F, b: F) -> F
+    ensures { F.number result ≡ max_number (F.number a) (F.number b) }
 {
     if a < b {
         return b;
@@ -192,26 +305,6 @@ pub fn max_f64(a: f64, b: f64) -> f64
         return b;
     }
     a
-}
-
-pub fn max_f32(a: f32, b: f32) -> f32
-    ensures { result ≡ max_number a b }
-{
-    if a < b {
-        return b;
-    }
-    if a != a {
-        return b;
-    }
-    a
-}
-
-// Rust's std::cmp::Ordering.
-#[derive(Clone, Copy)]
-pub enum Ordering {
-    Less,
-    Equal,
-    Greater,
 }
 
 // −1, 0 or 1.
@@ -225,57 +318,16 @@ pub fn sign(order: Ordering) -> i32
     }
 }
 
-// A number that stands among the numbers as x stands among the floats: the bits without the sign, upwards from the
-// middle, or downwards where the sign is on. The sign is a factor and not a branch.
-pub fn order_key_f32(x: f32) -> u32
-    ensures { result ≡ order_key binary32 x }
+// A number that stands among the numbers as x stands among the floats.
+pub fn order_key<F: Float>(x: F) -> F::Key
+    ensures { F.key result ≡ order_key F.format (F.number x) }
 {
-    if x != x {
-        return 0xffc0_0000;
-    }
-    let bits = f32::to_bits(x);
-    let size = bits % 0x8000_0000;
-    let sign = bits / 0x8000_0000;
-    size + 0x8000_0000 - sign * (size + size + 1)
-}
-
-pub fn order_key_f64(x: f64) -> u64
-    ensures { result ≡ order_key binary64 x }
-{
-    if x != x {
-        return 0xfff8_0000_0000_0000;
-    }
-    let bits = f64::to_bits(x);
-    let size = bits % 0x8000_0000_0000_0000;
-    let sign = bits / 0x8000_0000_0000_0000;
-    size + 0x8000_0000_0000_0000 - sign * (size + size + 1)
+    x.order_key()
 }
 
 // Rust's a.total_cmp(&b), with every NaN the one above all.
-pub fn total_cmp_f32(a: f32, b: f32) -> Ordering
-    ensures { result ≡ compared a b }
+pub fn total_cmp<F: Float>(a: F, b: F) -> Ordering
+    ensures { result ≡ compared (F.number a) (F.number b) }
 {
-    let x = order_key_f32(a);
-    let y = order_key_f32(b);
-    if x < y {
-        return Ordering::Less;
-    }
-    if y < x {
-        return Ordering::Greater;
-    }
-    Ordering::Equal
-}
-
-pub fn total_cmp_f64(a: f64, b: f64) -> Ordering
-    ensures { result ≡ compared a b }
-{
-    let x = order_key_f64(a);
-    let y = order_key_f64(b);
-    if x < y {
-        return Ordering::Less;
-    }
-    if y < x {
-        return Ordering::Greater;
-    }
-    Ordering::Equal
+    a.order_key().cmp(&b.order_key())
 }

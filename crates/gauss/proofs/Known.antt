@@ -7,10 +7,11 @@ use native.Mathlib.Omega.{arith}
 use lib.ListN.{get_or, replicate}
 use lib.Ieee.{Float, nan, binary64, of_bits, neg, add, sub, mul, div, eq, le, lt, round}
 use Rattle.folds.specs.Walks.{steps, for_range_down, first, every}
+use Rattle.std.specs.Prelude.{Ok, Err}
 use Rattle.columns.specs.declared.Refusal.TheVariants.{OutOfRange, Unsolved}
 use Rattle.floats.specs.Constants.{f64_one, f64_zero}
 use Rattle.gauss.specs.Elimination.{Vector, Matrix, entry, small, row_subtracted, diagonal_filled, left_solved, pivot_row, cleared_below, echeloned, row_divided, reduced, cleared_above, backfilled}
-use Rattle.gauss.specs.Solutions.{blank, solved_with, joined, values, eliminated, attempt, epsilon, first_answer, solution}
+use Rattle.gauss.specs.Solutions.{joined, values, eliminated, attempt, epsilon, first_answer, solution}
 use Rattle.gauss.proofs.Meaning.{unread}
 
 -- 5.0
@@ -32,23 +33,23 @@ alone left right x y l r =
     only (λ i. entry left i j ≡ entry ((x ∷ []) ∷ []) i j) (only (λ j. entry left 0 j ≡ entry ((x ∷ []) ∷ []) 0 j) l j g) i h)
     (only (λ i. get_or right i nan ≡ get_or (y ∷ []) i nan) r)
 
-computed : (solution ((neg small ∷ []) ∷ []) (f64_five ∷ []) 1 ≡ solved_with (f64_five ∷ replicate 19 f64_zero))
-    × ((y : Float) → solution ((nan ∷ []) ∷ []) (y ∷ []) 1 ≡ blank Unsolved)
+computed : (solution ((neg small ∷ []) ∷ []) (f64_five ∷ []) 1 ≡ Ok (f64_five ∷ replicate 19 f64_zero))
+    × ((y : Float) → solution ((nan ∷ []) ∷ []) (y ∷ []) 1 ≡ Err Unsolved)
 unfolding solution first_answer attempt joined values eliminated epsilon diagonal_filled left_solved echeloned pivot_row cleared_below reduced row_divided backfilled cleared_above row_subtracted steps for_range_down first every neg add sub mul div eq le lt round of_bits
 computed = (refl, λ y. refl)
 
 -- "system [−1E-8], right side 5: answer 5, since the entry becomes 0"
 pub minus_small : (left : Matrix) (right : Vector) → entry left 0 0 ≡ neg small → get_or right 0 nan ≡ f64_five
-    → solution left right 1 ≡ solved_with (f64_five ∷ replicate 19 f64_zero)
+    → solution left right 1 ≡ Ok (f64_five ∷ replicate 19 f64_zero)
 minus_small left right l r = alone left right (neg small) f64_five l r ∙ computed.0
 
 -- "system [NaN]: 7", whatever the right side
-pub not_a_number : (left : Matrix) (right : Vector) → entry left 0 0 ≡ nan → solution left right 1 ≡ blank Unsolved
+pub not_a_number : (left : Matrix) (right : Vector) → entry left 0 0 ≡ nan → solution left right 1 ≡ Err Unsolved
 not_a_number left right l = alone left right nan (get_or right 0 nan) l refl ∙ computed.1 (get_or right 0 nan)
 
 -- "Size 0 or 21: 3."
 pub sizes_refused : (left : Matrix) (right : Vector)
-    → (solution left right 0 ≡ blank OutOfRange) × (solution left right 21 ≡ blank OutOfRange)
+    → (solution left right 0 ≡ Err OutOfRange) × (solution left right 21 ≡ Err OutOfRange)
 unfolding solution
 sizes_refused left right = (refl, refl)
 

@@ -1,18 +1,10 @@
--- What swap_rows and a column of `echelon` make of a table, in the cases that the code tells apart: one row for both or
--- two, a column skipped or cleared.
+-- What a column of `echelon` makes of a table, skipped or cleared.
 use mathlib.Core.Path.{◌≡◌, sym, ap, ◌∙◌}
 use mathlib.Core.Bool.{Bool, true, false, cond}
 use Prim.Native.Nat.{ℕ, ◌+◌}
-use mathlib.Core.List.{[]}
-use lib.ListN.{set}
 use lib.Ieee.{eq}
-use lib.Seq.{set-get_or}
 use Rattle.floats.specs.Constants.{f64_zero}
-use Rattle.gauss.specs.Elimination.{Matrix, row, entry, swapped, pivot_row, cleared_below, echelon_column}
-
--- a row that changes places with itself
-pub swapped_same : (m : Matrix) {i j : ℕ} → i ≡ j → m ≡ swapped i j m
-swapped_same m {i} {j} e = sym (ap (λ (k : ℕ). swapped k j m) e ∙ ap (λ (t : Matrix). set t j (row m j)) (set-get_or m j []) ∙ set-get_or m j [])
+use Rattle.gauss.specs.Elimination.{Matrix, entry, swapped, pivot_row, cleared_below, echelon_column}
 
 -- column k, with the pivot in row i
 module _ (size k h : ℕ) (m : Matrix) {i : ℕ} (pivot : i ≡ pivot_row size h k m) where

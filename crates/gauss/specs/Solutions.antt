@@ -1,35 +1,23 @@
 -- What `solve` answers. Document 01, module 2: "A system has size 1 to 20 and one right-hand column. … Try eps = 1E-8,
 -- then eps times 10 while eps ≤ 1.0. The rounded products decide the number of tries. Each try starts from the original
 -- system."
-use Rattle.std.specs.Prelude.{ℕ, zero, suc, Bool, cond, ◌&&◌, ltb, leb, get_or, set, replicate, Float}
+use Rattle.std.specs.Prelude.{ℕ, zero, suc, Bool, cond, ◌&&◌, ltb, leb, get_or, set, replicate, Float, Result, Ok, Err}
 use Rattle.std.specs.Float.{nan, binary64}
 use Rattle.std.specs.Float.Ieee.{of_bits, mul}
 use Rattle.folds.specs.Walks.{for_range, find_in_range}
 use Rattle.columns.specs.declared.Refusal.{Refusal}
 use Rattle.columns.specs.declared.Refusal.TheVariants.{OutOfRange, Unsolved}
-use Rattle.columns.specs.declared.Outcome.{Outcome}
-use Rattle.columns.specs.declared.Outcome.TheVariants.{Accepted}
-use Rattle.columns.specs.Refusals.{number_of, if_not, answered}
+use Rattle.columns.specs.Refusals.{Asked, if_not, answered}
 use Rattle.floats.specs.Constants.{f64_zero}
-use Rattle.gauss.specs.declared.Solved.{Solved}
-use Rattle.gauss.specs.declared.Solved.TheVariants.{Answer, Refused}
-use Rattle.gauss.specs.declared.Solution.{Solution}
 use Rattle.gauss.specs.Elimination.{Vector, Matrix, entry, set_entry, small}
 use Rattle.gauss.specs.Elimination.{diagonal_filled, left_solved, echeloned, reduced, backfilled}
 
 -- ---- answers
 
--- "A refusal returns its number", and an answer 0
-abbrev pub solved_number : Solved → ℕ
-solved_number Answer = 0
-solved_number (Refused refusal) = number_of refusal
-
-abbrev pub solved_with : Vector → Solution
-solved_with v = record { answer = Answer; values = v }
-
--- "Floats returned by value are then NaN"
-abbrev pub blank : Refusal → Solution
-blank refusal = record { answer = Refused refusal; values = replicate 20 nan }
+-- the twenty numbers that a call returns: those of the answer; after a refusal, "Floats returned by value are then NaN"
+abbrev pub solved_values : Result Vector Refusal → Vector
+solved_values (Ok v) = v
+solved_values (Err refusal) = replicate 20 nan
 
 -- ---- the system
 
@@ -53,10 +41,10 @@ unfoldable pub eliminated : ℕ → Float → Matrix → Matrix
 eliminated size eps m = backfilled size (reduced size (echeloned size (diagonal_filled size eps m)))
 
 -- solve_inner
-unfoldable pub attempt : ℕ → Float → Matrix → Solution
+unfoldable pub attempt : ℕ → Float → Matrix → Result Vector Refusal
 attempt size eps m =
     let done = eliminated size eps m in
-    cond (left_solved size done) (solved_with (values size done)) (blank Unsolved)
+    cond (left_solved size done) (Ok (values size done)) (Err Unsolved)
 
 abbrev pub ten : Float
 ten = of_bits binary64 0x4024000000000000
@@ -75,16 +63,16 @@ abbrev pub solves : ℕ → Matrix → ℕ → Bool
 solves size m n = left_solved size (eliminated size (epsilon n) m)
 
 -- the answer of the first try that does; "Did some eps solve the system? If not: 7."
-unfoldable pub first_answer : ℕ → Matrix → Solution
+unfoldable pub first_answer : ℕ → Matrix → Result Vector Refusal
 first_answer size m =
     let n = find_in_range (solves size m) 0 tries in
-    cond (ltb n tries) (attempt size (epsilon n) m) (blank Unsolved)
+    cond (ltb n tries) (attempt size (epsilon n) m) (Err Unsolved)
 
 -- ---- solve
 
 -- "Is the system's size 1 to 20 …? If not: 3."
-abbrev pub size_asked : ℕ → Outcome
-size_asked size = if_not (leb 1 size && leb size 20) OutOfRange Accepted
+abbrev pub size_asked : ℕ → Asked
+size_asked size = if_not (leb 1 size && leb size 20) OutOfRange (Ok tt)
 
-unfoldable pub solution : Matrix → Vector → ℕ → Solution
-solution left right size = answered (size_asked size) (first_answer size (joined left right size)) blank
+unfoldable pub solution : Matrix → Vector → ℕ → Result Vector Refusal
+solution left right size = answered (size_asked size) (first_answer size (joined left right size)) Err

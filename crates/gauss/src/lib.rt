@@ -7,32 +7,15 @@ ghost use Rattle.std.specs.Prelude.{◌≡◌, ◌≤◌, ◌<◌};
 ghost use Rattle.gauss.specs.Elimination.{swapped, diagonal_filled, left_solved, solved_at, echeloned, pivot_row};
 ghost use Rattle.gauss.specs.Elimination.{row_subtracted, cleared_below, row_divided, reduced};
 ghost use Rattle.gauss.specs.Elimination.{cleared_above, backfilled};
-ghost use Rattle.gauss.specs.Solutions.{solved_number, blank, joined, values, attempt, solution};
+ghost use Rattle.gauss.specs.Solutions.{joined, values, attempt, solution};
 
 use columns::Refusal;
 
-// Whether a system is solved, or why not.
+// How many rows and columns of a table a system has.
 #[derive(Clone, Copy)]
-pub enum Solved {
-    Answer,
-    Refused(Refusal),
-}
-
-// 0 for an answer, else the question's number.
-pub fn solved_number(answer: Solved) -> u32
-    ensures { result ≡ solved_number answer }
-{
-    match answer {
-        Solved::Answer => 0,
-        Solved::Refused(refusal) => columns::number(refusal),
-    }
-}
-
-// That, and beside it twenty numbers: those of the answer, with 0 past the size, or NaN.
-#[derive(Clone, Copy)]
-pub struct Solution {
-    pub answer: Solved,
-    pub values: [f64; 20],
+struct Size {
+    rows: usize,
+    ghost in_table: { rows ≤ 20 },
 }
 
 // The pivot pair: a row, and its entry in the pivot's column.
@@ -47,39 +30,34 @@ fn swap_rows(m: &mut [[f64; 21]; 20], i: usize, j: usize)
     requires { (i < 20) × (j < 20) }
     ensures { m.new ≡ swapped i j m.old }
 {
-    if i == j {
-        return;
+    if i != j {
+        m.swap(i, j);
     }
-    let upper = m[i];
-    let lower = m[j];
-    m[i] = lower;
-    m[j] = upper;
 }
 
 // One try, with eps on the diagonal.
-fn solve_inner(left: &[[f64; 20]; 20], right: &[f64; 20], size: usize, eps: f64) -> Solution
-    requires { size ≤ 20 }
-    ensures { result ≡ attempt size eps (joined left.now right.now size) }
+fn solve_inner(
+    left: &[[f64; 20]; 20],
+    right: &[f64; 20],
+    size: Size,
+    eps: f64,
+) -> Result<[f64; 20], Refusal>
+    ensures { result ≡ attempt size.rows eps (joined left.now right.now size.rows) }
 {
     let upper = upper_form(left, right, size, eps);
     let ones = reduce(upper, size);
     let done = backfill(ones, size);
     if left_solved(&done, size) {
-        let values = answers(&done, size);
-        return Solution {
-            answer: Solved::Answer,
-            values,
-        };
+        return Ok(answers(&done, size));
     }
-    refused(Refusal::Unsolved)
+    Err(Refusal::Unsolved)
 }
 
 // The table of the system after the first two stages. With reduce and backfill in one function, the compiler copies
 // the table between stages.
-fn upper_form(left: &[[f64; 20]; 20], right: &[f64; 20], size: usize, eps: f64) -> [[f64; 21]; 20]
-    requires { size ≤ 20 }
-    ensures { let system = joined left.now right.now size in
-        result ≡ echeloned size (diagonal_filled size eps system) }
+fn upper_form(left: &[[f64; 20]; 20], right: &[f64; 20], size: Size, eps: f64) -> [[f64; 21]; 20]
+    ensures { let system = joined left.now right.now size.rows in
+        result ≡ echeloned size.rows (diagonal_filled size.rows eps system) }
 {
     let system = join(left, right, size);
     let filled = fill_zero(system, size, eps);
@@ -87,67 +65,59 @@ fn upper_form(left: &[[f64; 20]; 20], right: &[f64; 20], size: usize, eps: f64) 
 }
 
 // The right-hand numbers, and 0 past the size.
-fn answers(m: &[[f64; 21]; 20], size: usize) -> [f64; 20]
-    requires { size ≤ 20 }
-    ensures { result ≡ values size m.now }
+fn answers(m: &[[f64; 21]; 20], size: Size) -> [f64; 20]
+    ensures { result ≡ values size.rows m.now }
 {
     let mut out = [0.0; 20];
-    for i in 0..size {
+    for i in 0..size.rows {
         out[i] = m[i][20];
     }
     out
 }
 
-// A refusal, with twenty NaN.
-fn refused(refusal: Refusal) -> Solution
-    ensures { result ≡ blank refusal }
-{
-    let values = [0.0 / 0.0; 20];
-    Solution {
-        answer: Solved::Refused(refusal),
-        values,
-    }
-}
-
 // The answer at the first eps that solves the system: 1E-8, then ten times the last, rounded, while it is at most 1;
 // each try starts from the system itself. Entries past the size are not read.
-pub fn solve(left: [[f64; 20]; 20], right: [f64; 20], size: usize) -> Solution
+pub fn solve(left: [[f64; 20]; 20], right: [f64; 20], size: usize) -> Result<[f64; 20], Refusal>
     ensures { result ≡ solution left right size }
 {
     solve_at(&left, &right, size)
 }
 
-// That, of a system that is read where it is, without a copy. Question 3 is asked here: asked by a function of its own,
-// it makes the compiler copy the table six times.
-pub fn solve_at(left: &[[f64; 20]; 20], right: &[f64; 20], size: usize) -> Solution
+// That, of a system that is read where it is, without a copy. Question 3 is asked here, by two tests: asked by one, or
+// by a function of its own, it makes the compiler copy tables more often.
+#[tactic(auto, using(crate::proofs::Solving::out_of_range))]
+pub fn solve_at(
+    left: &[[f64; 20]; 20],
+    right: &[f64; 20],
+    size: usize,
+) -> Result<[f64; 20], Refusal>
     ensures { result ≡ solution left.now right.now size }
 {
     if size == 0 {
-        return refused(Refusal::OutOfRange);
+        return Err(Refusal::OutOfRange);
     }
     if 20 < size {
-        return refused(Refusal::OutOfRange);
+        return Err(Refusal::OutOfRange);
     }
+    let size = Size { rows: size };
     let mut eps = 1E-8;
     while eps <= 1.0 {
         let attempt = solve_inner(left, right, size, eps);
-        let answer = attempt.answer;
-        if let Solved::Answer = answer {
+        if attempt.is_ok() {
             return attempt;
         }
         eps *= 10.0;
     }
-    refused(Refusal::Unsolved)
+    Err(Refusal::Unsolved)
 }
 
 // The table of a system: each row of `left` up to the size, with its number of `right`.
-fn join(left: &[[f64; 20]; 20], right: &[f64; 20], size: usize) -> [[f64; 21]; 20]
-    requires { size ≤ 20 }
-    ensures { result ≡ joined left.now right.now size }
+fn join(left: &[[f64; 20]; 20], right: &[f64; 20], size: Size) -> [[f64; 21]; 20]
+    ensures { result ≡ joined left.now right.now size.rows }
 {
     let mut m = [[0.0; 21]; 20];
-    for i in 0..size {
-        for j in 0..size {
+    for i in 0..size.rows {
+        for j in 0..size.rows {
             m[i][j] = left[i][j];
         }
         m[i][20] = right[i];
@@ -155,23 +125,21 @@ fn join(left: &[[f64; 20]; 20], right: &[f64; 20], size: usize) -> [[f64; 21]; 2
     m
 }
 
-fn fill_zero(mut m: [[f64; 21]; 20], size: usize, eps: f64) -> [[f64; 21]; 20]
-    requires { size ≤ 20 }
-    ensures { result ≡ diagonal_filled size eps m }
+fn fill_zero(mut m: [[f64; 21]; 20], size: Size, eps: f64) -> [[f64; 21]; 20]
+    ensures { result ≡ diagonal_filled size.rows eps m }
 {
-    for i in 0..size {
+    for i in 0..size.rows {
         m[i][i] += eps;
     }
     m
 }
 
 // Is each diagonal entry 1 or 0, and no other above 1E-8?
-fn left_solved(m: &[[f64; 21]; 20], size: usize) -> bool
-    requires { size ≤ 20 }
-    ensures { result ≡ left_solved size m.now }
+fn left_solved(m: &[[f64; 21]; 20], size: Size) -> bool
+    ensures { result ≡ left_solved size.rows m.now }
 {
-    for i in 0..size {
-        for j in 0..size {
+    for i in 0..size.rows {
+        for j in 0..size.rows {
             if !entry_solved(m[i][j], i == j) {
                 return false;
             }
@@ -191,12 +159,11 @@ fn entry_solved(x: f64, diagonal: bool) -> bool
 }
 
 // h counts the pivots found, so it is at most k, and the columns end the walk.
-fn echelon(mut m: [[f64; 21]; 20], size: usize) -> [[f64; 21]; 20]
-    requires { size ≤ 20 }
-    ensures { result ≡ echeloned size m }
+fn echelon(mut m: [[f64; 21]; 20], size: Size) -> [[f64; 21]; 20]
+    ensures { result ≡ echeloned size.rows m }
 {
     let mut h = 0;
-    for k in 0..size {
+    for k in 0..size.rows {
         let i = pivot_row(&m, size, h, k);
         if m[i][k] == 0.0 {
             continue;
@@ -210,17 +177,18 @@ fn echelon(mut m: [[f64; 21]; 20], size: usize) -> [[f64; 21]; 20]
 
 // The row with the largest entry of column k from row h down, the last among equals; row 0 where none is at least
 // f64::MIN.
-fn pivot_row(m: &[[f64; 21]; 20], size: usize, h: usize, k: usize) -> usize
-    requires { (size ≤ 20) × (h < size) × (k < size) }
-    ensures { (result ≡ pivot_row size h k m.now) × (result < size) }
+fn pivot_row(m: &[[f64; 21]; 20], size: Size, h: usize, k: usize) -> usize
+    requires { (h < size.rows) × (k < size.rows) }
+    ensures { (result ≡ pivot_row size.rows h k m.now) × (result < size.rows) }
 {
     let mut max = Pivot {
         row: 0,
-        value: -1.7976931348623157e308,
+        value: f64::MIN,
     };
+    // a loop whose break yields the row: so this project writes the search
     let mut i = h;
     loop {
-        if size <= i {
+        if size.rows <= i {
             break max.row;
         }
         let x = m[i][k];
@@ -233,12 +201,12 @@ fn pivot_row(m: &[[f64; 21]; 20], size: usize, h: usize, k: usize) -> usize
 }
 
 // Clears column k below the pivot row h, which is copied once.
-fn clear_below(m: &mut [[f64; 21]; 20], size: usize, h: usize, k: usize)
-    requires { (size ≤ 20) × (h < size) × (k < size) }
-    ensures { m.new ≡ cleared_below size h k m.old }
+fn clear_below(m: &mut [[f64; 21]; 20], size: Size, h: usize, k: usize)
+    requires { (h < size.rows) × (k < size.rows) }
+    ensures { m.new ≡ cleared_below size.rows h k m.old }
 {
     let p = m[h];
-    for i in h + 1..size {
+    for i in h + 1..size.rows {
         let factor = m[i][k] / p[k];
         m[i][k] = 0.0;
         subtract(m, &p, size, i, k + 1, factor);
@@ -246,25 +214,22 @@ fn clear_below(m: &mut [[f64; 21]; 20], size: usize, h: usize, k: usize)
 }
 
 // Takes factor times the row p from row i, from column j on, and from its right-hand number.
-fn subtract(m: &mut [[f64; 21]; 20], p: &[f64; 21], size: usize, i: usize, j: usize, factor: f64)
-    requires { (size ≤ 20) × (i < 20) × (j ≤ size) }
-    ensures { m.new ≡ row_subtracted p.now size i j factor m.old }
+fn subtract(m: &mut [[f64; 21]; 20], p: &[f64; 21], size: Size, i: usize, j: usize, factor: f64)
+    requires { (i < 20) × (j ≤ size.rows) }
+    ensures { m.new ≡ row_subtracted p.now size.rows i j factor m.old }
 {
-    for c in j..size {
+    for c in j..size.rows {
         m[i][c] -= p[c] * factor;
     }
     m[i][20] -= p[20] * factor;
 }
 
 // Each row is divided by its first nonzero entry.
-fn reduce(mut m: [[f64; 21]; 20], size: usize) -> [[f64; 21]; 20]
-    requires { size ≤ 20 }
-    ensures { result ≡ reduced size m }
+fn reduce(mut m: [[f64; 21]; 20], size: Size) -> [[f64; 21]; 20]
+    ensures { result ≡ reduced size.rows m }
 {
-    let mut i = size;
-    'rows: while 0 < i {
-        i -= 1;
-        for j in 0..size {
+    'rows: for i in (0..size.rows).rev() {
+        for j in 0..size.rows {
             let x = m[i][j];
             if x == 0.0 {
                 continue;
@@ -277,25 +242,22 @@ fn reduce(mut m: [[f64; 21]; 20], size: usize) -> [[f64; 21]; 20]
 }
 
 // Divides row i by x, from column j on, and its right-hand number.
-fn divide(m: &mut [[f64; 21]; 20], size: usize, i: usize, j: usize, x: f64)
-    requires { (size ≤ 20) × (i < 20) × (j ≤ size) }
-    ensures { m.new ≡ row_divided size i j x m.old }
+fn divide(m: &mut [[f64; 21]; 20], size: Size, i: usize, j: usize, x: f64)
+    requires { (i < 20) × (j ≤ size.rows) }
+    ensures { m.new ≡ row_divided size.rows i j x m.old }
 {
-    for k in j..size {
+    for k in j..size.rows {
         m[i][k] /= x;
     }
     m[i][20] /= x;
 }
 
 // Solves the upper triangular matrix: the column of each row's first nonzero entry is cleared above it.
-fn backfill(mut m: [[f64; 21]; 20], size: usize) -> [[f64; 21]; 20]
-    requires { size ≤ 20 }
-    ensures { result ≡ backfilled size m }
+fn backfill(mut m: [[f64; 21]; 20], size: Size) -> [[f64; 21]; 20]
+    ensures { result ≡ backfilled size.rows m }
 {
-    let mut i = size;
-    'rows: while 0 < i {
-        i -= 1;
-        for j in 0..size {
+    'rows: for i in (0..size.rows).rev() {
+        for j in 0..size.rows {
             if m[i][j] == 0.0 {
                 continue;
             }
@@ -307,9 +269,9 @@ fn backfill(mut m: [[f64; 21]; 20], size: usize) -> [[f64; 21]; 20]
 }
 
 // Clears column j above row i: factor times row i is taken from each row above, from column 0 on.
-fn clear_above(m: &mut [[f64; 21]; 20], size: usize, i: usize, j: usize)
-    requires { (size ≤ 20) × (i < size) × (j < size) }
-    ensures { m.new ≡ cleared_above size i j m.old }
+fn clear_above(m: &mut [[f64; 21]; 20], size: Size, i: usize, j: usize)
+    requires { (i < size.rows) × (j < size.rows) }
+    ensures { m.new ≡ cleared_above size.rows i j m.old }
 {
     let p = m[i];
     for k in 0..i {

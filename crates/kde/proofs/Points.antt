@@ -11,7 +11,7 @@ use Rattle.floats.specs.Convert.{converted}
 use Rattle.columns.specs.declared.Refusal.TheVariants.{OutOfRange, NoTolerance}
 use Rattle.kde.specs.declared.Estimator.{Estimator}
 use Rattle.kde.specs.declared.Tolerance.TheVariants.{Ppm, Da, Pct}
-use Rattle.kde.specs.declared.BinCount.TheVariants.{Bins, Refused}
+use Rattle.std.specs.Prelude.{Ok, Err}
 use Rattle.kde.specs.Bins.{estimator, estimator_of}
 use Rattle.kde.specs.Estimate.{posterior_error}
 use Rattle.kde.specs.Tolerances.{bin_count_answer}
@@ -60,23 +60,23 @@ one_bin_one_score = refl
 
 -- ---- "ppm −10 to 10: 100 bins. ppm −75.5 to 75: 151. Da −600 to 600: 1200. Da 0 to 65,537: 3. Pct: 4."
 
-pub ppm_10 : bin_count_answer (Ppm (fin true 5 (pos 1)) (fin false 5 (pos 1))) ≡ Bins 100
+pub ppm_10 : bin_count_answer (Ppm (fin true 5 (pos 1)) (fin false 5 (pos 1))) ≡ Ok 100
 unfolding bin_count_answer to_unsigned sub
 ppm_10 = refl
 
-pub ppm_75 : bin_count_answer (Ppm (fin true 151 (negsuc 0)) (fin false 75 (pos 0))) ≡ Bins 151
+pub ppm_75 : bin_count_answer (Ppm (fin true 151 (negsuc 0)) (fin false 75 (pos 0))) ≡ Ok 151
 unfolding bin_count_answer to_unsigned sub
 ppm_75 = refl
 
-pub da_600 : bin_count_answer (Da (fin true 75 (pos 3)) (fin false 75 (pos 3))) ≡ Bins 1200
+pub da_600 : bin_count_answer (Da (fin true 75 (pos 3)) (fin false 75 (pos 3))) ≡ Ok 1200
 unfolding bin_count_answer to_unsigned sub
 da_600 = refl
 
-pub da_65537 : bin_count_answer (Da (fin false 0 (pos 0)) (fin false 65537 (pos 0))) ≡ Refused OutOfRange
+pub da_65537 : bin_count_answer (Da (fin false 0 (pos 0)) (fin false 65537 (pos 0))) ≡ Err OutOfRange
 unfolding bin_count_answer to_unsigned sub
 da_65537 = refl
 
-pub pct : (lo hi : Float) → bin_count_answer (Pct lo hi) ≡ Refused NoTolerance
+pub pct : (lo hi : Float) → bin_count_answer (Pct lo hi) ≡ Err NoTolerance
 unfolding bin_count_answer
 pct lo hi = refl
 

@@ -9,17 +9,17 @@ use lib.Dec.{leb, eqb, leb→le}
 use lib.ListN.{length}
 use lib.Ieee.{Float}
 use Rattle.folds.proofs.Tests.{both_true}
-use Rattle.columns.specs.Refusals.{longest, if_not}
+use Rattle.columns.specs.Refusals.{longest}
 use Rattle.columns.specs.declared.Refusal.TheVariants.{TooLong, WrongLength, OutOfRange}
-use Rattle.columns.specs.declared.Outcome.TheVariants.{Accepted}
-use Rattle.columns.proofs.Questions.{met}
+use Rattle.std.specs.Prelude.{Ok}
+use Rattle.columns.proofs.Questions.{met, asked_lengths}
 use Rattle.kde.specs.declared.Builder.{Builder}
-use Rattle.kde.specs.Bins.{in_range, bin_scores_asked, bins_asked}
+use Rattle.kde.specs.Bins.{in_range, InRange, asked, bin_scores_asked, bins_asked}
 use Rattle.kde.specs.Estimate.{errors_asked}
 use Rattle.kde.specs.LogErrors.{log_errors_asked}
 use Rattle.kde.specs.Inner.BinsReady.{BinsReady}
 
-pub in_range_lem : (bins : ℕ) → in_range bins ≡ true → (1 ≤ bins) × (bins ≤ 65536)
+pub in_range_lem : (bins : ℕ) → in_range bins ≡ true → InRange bins
 in_range_lem bins e =
     let k = both_true (leb 1 bins) (leb bins 65536) e in
     (leb→le 1 bins (rw k.0 tt), leb→le bins 65536 (rw k.1 tt))
@@ -28,39 +28,36 @@ in_range_lem bins e =
 record Passed (rows : ℕ) (match : Bool) (bins : ℕ) : Type 0 where
   short : rows ≤ longest
   matches : match ≡ true
-  range : (1 ≤ bins) × (bins ≤ 65536)
+  range : InRange bins
 
 passed : (rows : ℕ) (match : Bool) (bins : ℕ)
-    → if_not (leb rows longest) TooLong (if_not match WrongLength (if_not (in_range bins) OutOfRange Accepted))
-    ≡ Accepted
+    → asked rows match bins ≡ Ok tt
     → Passed rows match bins
 passed rows match bins e =
     let first = met (leb rows longest) TooLong _ e in
     let second = met match WrongLength _ first.1 in
-    let third = met (in_range bins) OutOfRange Accepted second.1 in
+    let third = met (in_range bins) OutOfRange _ second.1 in
     record { short = leb→le rows longest (rw first.0 tt); matches = second.0; range = in_range_lem bins third.0 }
 
-pub bin_scores_passed : (bins scores column : ℕ) → bin_scores_asked bins scores column ≡ Accepted
-    → ((1 ≤ bins) × (bins ≤ 65536)) × (column ≡ bins)
+pub bin_scores_passed : (bins scores column : ℕ) → bin_scores_asked bins scores column ≡ Ok tt
+    → InRange bins × (column ≡ bins)
 bin_scores_passed bins scores column e =
     let p = passed scores (eqb column bins) bins e in
     (p.range, eqb-true column bins p.matches)
 
-pub errors_passed : (bins scores errors : ℕ) → errors_asked bins scores errors ≡ Accepted
-    → ((1 ≤ bins) × (bins ≤ 65536)) × (errors ≡ scores)
+pub errors_passed : (bins scores errors : ℕ) → errors_asked bins scores errors ≡ Ok tt
+    → InRange bins × (errors ≡ scores)
 errors_passed bins scores errors e =
     let p = passed scores (eqb errors scores) bins e in
     (p.range, eqb-true errors scores p.matches)
 
-pub log_errors_passed : (logs errors : ℕ) → log_errors_asked logs errors ≡ Accepted → errors ≡ logs
-log_errors_passed logs errors e =
-    let first = met (leb logs longest) TooLong _ e in
-    eqb-true errors logs (met (eqb errors logs) WrongLength Accepted first.1).0
+pub log_errors_passed : (logs errors : ℕ) → log_errors_asked logs errors ≡ Ok tt → errors ≡ logs
+log_errors_passed logs errors e = (asked_lengths logs errors e).0
 
 -- of a builder and three columns, with counts of the list
 module _ (builder : Builder) (listed decoys total : ℕ) (decoy_density target_density bins : List Float) where
   pub bins_passed : bins_asked builder.bins listed (length decoy_density) (length target_density) (length bins)
-      ≡ Accepted
+      ≡ Ok tt
       → decoys ≤ total → total ≤ listed
       → BinsReady builder decoys total decoy_density target_density bins
   bins_passed e h k =

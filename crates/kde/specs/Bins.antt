@@ -1,21 +1,19 @@
 -- From scores to bins. Document 01, module 4: "The port gives least score, step, and the score of every bin; the host
 -- returns two density columns taken at those scores; the port makes bins as decoy / (target + decoy), with pi as in the
 -- Rust."
-use Rattle.std.specs.Prelude.{Bool, true, cond, ◌&&◌, List, [], ◌∷◌, ℕ, ◌+◌, ◌-◌, leb, eqb, ℤ, pos, length, get_or, Float}
+use Rattle.std.specs.Prelude.{Bool, true, cond, ◌&&◌, List, [], ◌∷◌, ℕ, ◌+◌, ◌-◌, ◌≤◌, leb, eqb, ℤ, pos, length, get_or}
+use Rattle.std.specs.Prelude.{Float, Result, Ok, Err}
 use Rattle.std.specs.Float.{nan, binary64}
 use Rattle.std.specs.Float.Ieee.{of_int, add, sub, mul, div}
 use Rattle.floats.specs.Constants.{f64_one, f64_max, f64_min}
 use Rattle.floats.specs.MinMax.{min_number, max_number}
 use Rattle.folds.specs.Lists.{filled, tabulated, folded, how_many}
-use Rattle.columns.specs.Refusals.{number_of, longest, if_not, answered}
+use Rattle.columns.specs.Refusals.{longest, Asked, if_not, answered}
+use Rattle.columns.specs.declared.Refusal.{Refusal}
 use Rattle.columns.specs.declared.Refusal.TheVariants.{TooLong, WrongLength, OutOfRange}
-use Rattle.columns.specs.declared.Outcome.{Outcome}
-use Rattle.columns.specs.declared.Outcome.TheVariants.{Accepted, Refused}
 use Rattle.counting.specs.Labels.{decoys}
 use Rattle.kde.specs.declared.Estimator.{Estimator}
 use Rattle.kde.specs.declared.Builder.{Builder}
-use Rattle.kde.specs.declared.Built.{Built}
-use Rattle.kde.specs.declared.Built.TheVariants as built
 
 -- "Builder settings are a flag and a bin count, starting at monotonic and 1000."
 abbrev pub fresh_builder : Builder
@@ -24,6 +22,16 @@ fresh_builder = record { monotonic = true; bins = 1000 }
 -- Question 3: "the bin count 1 to 65,536"
 abbrev pub in_range : ℕ → Bool
 in_range bins = leb 1 bins && leb bins 65536
+
+-- the same, as the pair of its bounds
+abbrev pub InRange : ℕ → Type 0
+InRange bins = (1 ≤ bins) × (bins ≤ 65536)
+
+-- questions 1, 2 and 3, of a list's length, of lengths that match or do not, and of a bin count
+abbrev pub asked : ℕ → Bool → ℕ → Asked
+asked listed lengths_match bins =
+    if_not (leb listed longest) TooLong
+    (if_not lengths_match WrongLength (if_not (in_range bins) OutOfRange (Ok tt)))
 
 -- ---- step one: "least score, step, and the score of every bin"
 
@@ -49,36 +57,32 @@ estimator_of bins scores =
 abbrev pub bin_score : Estimator → ℕ → Float
 bin_score e bin = add binary64 (mul binary64 (of_int binary64 (pos bin)) e.score_step) e.min_score
 
--- "A refusal returns its number"; "Floats returned by value are then NaN"
-abbrev pub built_number : Built → ℕ
-built_number (built.Made e) = 0
-built_number (built.Refused r) = number_of r
-
-abbrev pub built_estimator : Built → Estimator
-built_estimator (built.Made e) = e
-built_estimator (built.Refused r) = estimator nan nan
+-- "Floats returned by value are then NaN"
+abbrev pub built_estimator : Result Estimator Refusal → Estimator
+built_estimator (Ok e) = e
+built_estimator (Err r) = estimator nan nan
 
 -- what the call answers, and the column of bin scores afterwards
 pub record BinScoresRun : Type 0 where
-  pub answer : Built
+  pub answer : Result Estimator Refusal
   pub bin_scores : List Float
 
-abbrev pub bin_scores_run : Built → List Float → BinScoresRun
+abbrev pub bin_scores_run : Result Estimator Refusal → List Float → BinScoresRun
 bin_scores_run answer bin_scores = record { answer = answer; bin_scores = bin_scores }
 
 -- questions 1, 2 and 3, of a bin count, a list of scores and a column of bin scores
-abbrev pub bin_scores_asked : ℕ → ℕ → ℕ → Outcome
+abbrev pub bin_scores_asked : ℕ → ℕ → ℕ → Asked
 bin_scores_asked bins scores column =
     if_not (leb scores longest) TooLong
-    (if_not (eqb column bins) WrongLength (if_not (in_range bins) OutOfRange Accepted))
+    (if_not (eqb column bins) WrongLength (if_not (in_range bins) OutOfRange (Ok tt)))
 
 -- the estimator, and the score of every bin; a refusal leaves NaN in every place
 unfoldable pub bin_scores_of : Builder → List Float → List Float → BinScoresRun
 bin_scores_of builder scores column =
     let e = estimator_of builder.bins scores in
     answered (bin_scores_asked builder.bins (length scores) (length column))
-    (bin_scores_run (built.Made e) (tabulated (bin_score e) 0 builder.bins))
-    (λ r. bin_scores_run (built.Refused r) (filled nan column))
+    (bin_scores_run (Ok e) (tabulated (bin_score e) 0 builder.bins))
+    (λ r. bin_scores_run (Err r) (filled nan column))
 
 -- ---- step two: "bins as decoy / (target + decoy)"
 
@@ -112,25 +116,25 @@ bins_of builder decoys total decoy_density target_density =
 
 -- what a call answers, and its result column afterwards
 pub record ColumnRun : Type 0 where
-  pub answer : Outcome
+  pub answer : Asked
   pub column : List Float
 
-abbrev pub column_run : Outcome → List Float → ColumnRun
+abbrev pub column_run : Asked → List Float → ColumnRun
 column_run answer column = record { answer = answer; column = column }
 
 -- questions 1, 2 and 3, of a bin count, a list of rows or slots, two densities and a column of bins
-abbrev pub bins_asked : ℕ → ℕ → ℕ → ℕ → ℕ → Outcome
+abbrev pub bins_asked : ℕ → ℕ → ℕ → ℕ → ℕ → Asked
 bins_asked bins listed decoy_density target_density column =
     if_not (leb listed longest) TooLong
     (if_not (eqb decoy_density bins && eqb target_density bins && eqb column bins) WrongLength
-    (if_not (in_range bins) OutOfRange Accepted))
+    (if_not (in_range bins) OutOfRange (Ok tt)))
 
 -- the bins, for a list's number of decoys and of all that take part; a refusal leaves NaN in every place
 unfoldable pub built_bins : Builder → ℕ → ℕ → ℕ → List Float → List Float → List Float → ColumnRun
 built_bins builder listed decoys total decoy_density target_density column =
     answered (bins_asked builder.bins listed (length decoy_density) (length target_density) (length column))
-    (column_run Accepted (bins_of builder decoys total decoy_density target_density))
-    (λ r. column_run (Refused r) (filled nan column))
+    (column_run (Ok tt) (bins_of builder decoys total decoy_density target_density))
+    (λ r. column_run (Err r) (filled nan column))
 
 -- Over labels every row takes part.
 unfoldable pub label_bins : Builder → List ℤ → List Float → List Float → List Float → ColumnRun

@@ -1,17 +1,14 @@
 -- The posterior error of a score, in the order of operations of the Rust's Estimator::posterior_error. Document 01,
 -- module 4: "An estimator is the bin column with its least score and its step."
-use Rattle.std.specs.Prelude.{List, map, cond, ℕ, ◌+◌, ◌-◌, min, leb, eqb, length, get_or, Float}
+use Rattle.std.specs.Prelude.{List, map, cond, ℕ, ◌+◌, ◌-◌, min, leb, eqb, length, get_or, Float, Result, Ok, Err}
 use Rattle.std.specs.Float.{nan, binary64}
 use Rattle.std.specs.Float.Ieee.{to_unsigned, add, sub, mul, div}
 use Rattle.folds.specs.Lists.{filled}
 use Rattle.floats.specs.Whole.{floored}
-use Rattle.columns.specs.Refusals.{number_of, longest, if_not, answered}
+use Rattle.columns.specs.Refusals.{longest, Asked, if_not, answered}
+use Rattle.columns.specs.declared.Refusal.{Refusal}
 use Rattle.columns.specs.declared.Refusal.TheVariants.{TooLong, WrongLength, OutOfRange}
-use Rattle.columns.specs.declared.Outcome.{Outcome}
-use Rattle.columns.specs.declared.Outcome.TheVariants.{Accepted, Refused}
 use Rattle.kde.specs.declared.Estimator.{Estimator}
-use Rattle.kde.specs.declared.Posterior.{Posterior}
-use Rattle.kde.specs.declared.Posterior.TheVariants as posterior
 use Rattle.kde.specs.Bins.{in_range, bin_score, ColumnRun, column_run}
 
 -- how many whole steps a score lies above the least, as Rust's floor() and `as usize` have it
@@ -38,28 +35,24 @@ posterior_error e bins score =
     interpolated (get_or bins low nan) (get_or bins high nan) (factor e score low)
 
 -- the call for one score: "the bin count 1 to 65,536"
-unfoldable pub posterior_answer : Estimator → List Float → Float → Posterior
+unfoldable pub posterior_answer : Estimator → List Float → Float → Result Float Refusal
 posterior_answer e bins score =
-    cond (in_range (length bins)) (posterior.Error (posterior_error e bins score)) (posterior.Refused OutOfRange)
+    cond (in_range (length bins)) (Ok (posterior_error e bins score)) (Err OutOfRange)
 
--- "A refusal returns its number"; "Floats returned by value are then NaN"
-abbrev pub posterior_number : Posterior → ℕ
-posterior_number (posterior.Error x) = 0
-posterior_number (posterior.Refused r) = number_of r
-
-abbrev pub posterior_value : Posterior → Float
-posterior_value (posterior.Error x) = x
-posterior_value (posterior.Refused r) = nan
+-- "Floats returned by value are then NaN"
+abbrev pub posterior_value : Result Float Refusal → Float
+posterior_value (Ok x) = x
+posterior_value (Err r) = nan
 
 -- questions 1, 2 and 3, of a bin column, a list of scores and a column of errors
-abbrev pub errors_asked : ℕ → ℕ → ℕ → Outcome
+abbrev pub errors_asked : ℕ → ℕ → ℕ → Asked
 errors_asked bins scores errors =
     if_not (leb scores longest) TooLong
-    (if_not (eqb errors scores) WrongLength (if_not (in_range bins) OutOfRange Accepted))
+    (if_not (eqb errors scores) WrongLength (if_not (in_range bins) OutOfRange (Ok tt)))
 
 -- the posterior error of every score; a refusal leaves NaN in every place
 unfoldable pub posterior_errors : Estimator → List Float → List Float → List Float → ColumnRun
 posterior_errors e bins scores column =
     answered (errors_asked (length bins) (length scores) (length column))
-    (column_run Accepted (map (posterior_error e bins) scores))
-    (λ r. column_run (Refused r) (filled nan column))
+    (column_run (Ok tt) (map (posterior_error e bins) scores))
+    (λ r. column_run (Err r) (filled nan column))

@@ -1,11 +1,11 @@
 // Estimator::posterior_error, for one score and for a column of them.
-ghost use Rattle.std.specs.Prelude.{◌≡◌, map, ◌+◌, ◌≤◌, ◌<◌, min, length};
+ghost use Rattle.std.specs.Prelude.{◌≡◌, ◌+◌, ◌≤◌, ◌<◌, min, length};
 ghost use Rattle.kde.specs.Estimate.{steps_up, posterior_error, posterior_answer};
-ghost use Rattle.kde.specs.Bins.{column_run};
-ghost use Rattle.kde.specs.Estimate.{errors_asked, posterior_errors};
+ghost use Rattle.kde.specs.Bins.{column_run, InRange};
+ghost use Rattle.kde.specs.Estimate.{posterior_errors};
 
-use crate::{Estimator, Posterior};
-use columns::{Outcome, Refusal};
+use crate::{Estimator, ask, write_each};
+use columns::{Refusal, or_blank};
 
 // The bin at or below a score, or the first. The number of steps is held between 1/2 and 1/2 past the last bin before
 // it is cut to a whole number, so that nothing branches; the Rust's floor changes nothing before a cut.
@@ -14,7 +14,7 @@ fn lower_bin(estimator: Estimator, last: usize, score: f64) -> usize
     ensures { result ≡ min last (steps_up estimator score) }
 {
     let steps = (score - estimator.min_score) / estimator.score_step;
-    let held = floats::min_f64(last as f64 + 0.5, floats::max_f64(0.5, steps));
+    let held = floats::min(last as f64 + 0.5, floats::max(0.5, steps));
     floats::whole_part(held) as usize
 }
 
@@ -25,9 +25,10 @@ fn upper_bin(bin_lo: usize, last: usize) -> usize
     bin_lo + (bin_lo < last) as usize
 }
 
-// Estimator::posterior_error on a bin column of 1 to 65,536 places.
+// Estimator::posterior_error on a bin column of 1 to 65,536 places. Estimator and bins are not one struct: a rule of
+// the project passes an estimator by value, beside the bin column.
 pub fn posterior_at(estimator: Estimator, bins: &[f64], score: f64) -> f64
-    requires { (1 ≤ length bins.now) × (length bins.now ≤ 65536) }
+    requires { InRange (length bins.now) }
     ensures { result ≡ posterior_error estimator bins.now score }
 {
     let min_score = estimator.min_score;
@@ -44,41 +45,13 @@ pub fn posterior_at(estimator: Estimator, bins: &[f64], score: f64) -> f64
 }
 
 // The posterior error of a score.
-pub fn posterior_error(estimator: Estimator, bins: &[f64], score: f64) -> Posterior
+pub fn posterior_error(estimator: Estimator, bins: &[f64], score: f64) -> Result<f64, Refusal>
     ensures { result ≡ posterior_answer estimator bins.now score }
 {
     if crate::in_range(bins.len()) {
-        return Posterior::Error(posterior_at(estimator, bins, score));
+        return Ok(posterior_at(estimator, bins, score));
     }
-    Posterior::Refused(Refusal::OutOfRange)
-}
-
-fn write_errors(estimator: Estimator, bins: &[f64], scores: &[f64], errors: &mut [f64])
-    requires bins_in_bounds { (1 ≤ length bins.now) × (length bins.now ≤ 65536) }
-    requires errors_len { length errors.old ≡ length scores.now }
-    ensures { errors.new ≡ map (posterior_error estimator bins.now) scores.now }
-{
-    let mut i = 0;
-    while i < errors.len() {
-        errors[i] = posterior_at(estimator, bins, scores[i]);
-        i += 1;
-    }
-}
-
-// Questions 1, 2 and 3.
-fn ask_errors(bins: usize, scores: usize, errors: usize) -> Outcome
-    ensures { result ≡ errors_asked bins scores errors }
-{
-    if columns::LONGEST < scores {
-        return Outcome::Refused(Refusal::TooLong);
-    }
-    if errors != scores {
-        return Outcome::Refused(Refusal::WrongLength);
-    }
-    if !crate::in_range(bins) {
-        return Outcome::Refused(Refusal::OutOfRange);
-    }
-    Outcome::Accepted
+    Err(Refusal::OutOfRange)
 }
 
 // The posterior error of every score of a column.
@@ -87,19 +60,13 @@ pub fn posterior_errors(
     bins: &[f64],
     scores: &[f64],
     errors: &mut [f64],
-) -> Outcome
+) -> Result<(), Refusal>
     ensures { let scores = scores.now in
         let before = errors.old in
         column_run result errors.new ≡ posterior_errors estimator bins.now scores before }
 {
-    match ask_errors(bins.len(), scores.len(), errors.len()) {
-        Outcome::Refused(refusal) => {
-            columns::fill_f64(errors, 0.0 / 0.0);
-            Outcome::Refused(refusal)
-        }
-        Outcome::Accepted => {
-            write_errors(estimator, bins, scores, errors);
-            Outcome::Accepted
-        }
-    }
+    let asked = ask(scores.len(), errors.len() == scores.len(), bins.len());
+    or_blank(asked, errors)?;
+    write_each(scores, errors, |score| posterior_at(estimator, bins, score));
+    Ok(())
 }

@@ -3,10 +3,11 @@
 // every input.
 #![tactic(auto)]
 
-ghost use Rattle.std.specs.Prelude.{◌≡◌};
-ghost use Rattle.kde.specs.Bins.{fresh_builder, in_range, built_number, built_estimator};
-ghost use Rattle.kde.specs.Estimate.{posterior_number, posterior_value};
-ghost use Rattle.kde.specs.Tolerances.{bin_count_number, bin_count_bins};
+ghost use Rattle.std.specs.Prelude.{◌≡◌, map, length, Float};
+ghost use Rattle.std.specs.Float.{nan};
+ghost use Rattle.folds.specs.Lists.{filled};
+ghost use Rattle.columns.specs.Refusals.{answered};
+ghost use Rattle.kde.specs.Bins.{fresh_builder, in_range, asked, estimator};
 
 use columns::Refusal;
 
@@ -30,26 +31,55 @@ pub fn in_range(bins: usize) -> bool
     (1 <= bins) & (bins <= MOST_BINS)
 }
 
+// Questions 1, 2 and 3: of a list's length, of lengths that match or do not, and of a bin count.
+fn ask(listed: usize, lengths_match: bool, bins: usize) -> Result<(), Refusal>
+    ensures { result ≡ asked listed lengths_match bins }
+{
+    if columns::LONGEST < listed {
+        return Err(Refusal::TooLong);
+    }
+    if !lengths_match {
+        return Err(Refusal::WrongLength);
+    }
+    if !in_range(bins) {
+        return Err(Refusal::OutOfRange);
+    }
+    Ok(())
+}
+
+// Each place of a column by `f` from the other's: the column is mapped by every g that gives what `f` does.
+fn write_each<T: Copy, F: Fn(f64) -> T>(from: &[f64], to: &mut [T], f: F)
+    requires to_len { length to.old ≡ length from.now }
+    requires callable { F.IsAlwaysCallable f }
+    ensures { (g : Float → T) → ((x : Float) (y : T) → F.post f x y → y ≡ g x) → to.new ≡ map g from.now }
+{
+    for (i, x) in from.iter().enumerate() {
+        to[i] = f(*x);
+    }
+}
+
 // How bins are made: whether they never rise with the score, and how many there are.
-#[derive(Clone, Copy)]
+#[derive(Clone, Copy, Debug, PartialEq, Eq, Hash)]
 pub struct Builder {
     pub monotonic: bool,
     pub bins: usize,
+}
+
+impl Default for Builder {
+    ghost is_default = { λ builder. builder ≡ fresh_builder };
+
+    fn default() -> Self {
+        Self {
+            monotonic: Self::MONOTONIC,
+            bins: Self::BINS,
+        }
+    }
 }
 
 impl Builder {
     pub const MONOTONIC: bool = true;
 
     pub const BINS: usize = 1000;
-
-    pub fn default() -> Self
-        ensures { result ≡ fresh_builder }
-    {
-        Self {
-            monotonic: Self::MONOTONIC,
-            bins: Self::BINS,
-        }
-    }
 
     pub fn monotonic(mut self, monotonic: bool) -> Self
         ensures { result ≡ record { monotonic = monotonic; bins = self.bins } }
@@ -67,100 +97,28 @@ impl Builder {
 }
 
 // Least score and step; the bin column goes beside it.
-#[derive(Clone, Copy)]
+#[derive(Clone, Copy, Debug, PartialEq)]
 pub struct Estimator {
     pub min_score: f64,
     pub score_step: f64,
 }
 
-// The answer of `bin_scores`.
-#[derive(Clone, Copy)]
-pub enum Built {
-    Made(Estimator),
-    Refused(Refusal),
-}
-
-// 0 where the call accepts, else the question's number.
-pub fn built_number(answer: Built) -> u32
-    ensures { result ≡ built_number answer }
-{
-    match answer {
-        Built::Made(_) => 0,
-        Built::Refused(refusal) => columns::number(refusal),
-    }
-}
-
-// The estimator; two NaN where the call refuses.
-pub fn built_estimator(answer: Built) -> Estimator
-    ensures { result ≡ built_estimator answer }
-{
-    match answer {
-        Built::Made(estimator) => estimator,
-        Built::Refused(_) => Estimator {
-            min_score: 0.0 / 0.0,
-            score_step: 0.0 / 0.0,
-        },
-    }
-}
-
-// The answer of `posterior_error`.
-#[derive(Clone, Copy)]
-pub enum Posterior {
-    Error(f64),
-    Refused(Refusal),
-}
-
-// 0 where the call accepts, else the question's number.
-pub fn posterior_number(answer: Posterior) -> u32
-    ensures { result ≡ posterior_number answer }
-{
-    match answer {
-        Posterior::Error(_) => 0,
-        Posterior::Refused(refusal) => columns::number(refusal),
-    }
-}
-
-// The posterior error; NaN where the call refuses.
-pub fn posterior_value(answer: Posterior) -> f64
-    ensures { result ≡ posterior_value answer }
-{
-    match answer {
-        Posterior::Error(x) => x,
-        Posterior::Refused(_) => 0.0 / 0.0,
+impl Estimator {
+    // What stands for the estimator where `bin_scores` refuses: two NaN.
+    pub fn refused() -> Self
+        ensures { result ≡ estimator nan nan }
+    {
+        Self {
+            min_score: f64::NAN,
+            score_step: f64::NAN,
+        }
     }
 }
 
 // sage's mass::Tolerance.
-#[derive(Clone, Copy)]
+#[derive(Clone, Copy, Debug, PartialEq)]
 pub enum Tolerance {
     Ppm(f32, f32),
     Da(f32, f32),
     Pct(f32, f32),
-}
-
-// The answer of `bin_count`.
-#[derive(Clone, Copy)]
-pub enum BinCount {
-    Bins(usize),
-    Refused(Refusal),
-}
-
-// 0 where the call accepts, else the question's number.
-pub fn bin_count_number(answer: BinCount) -> u32
-    ensures { result ≡ bin_count_number answer }
-{
-    match answer {
-        BinCount::Bins(_) => 0,
-        BinCount::Refused(refusal) => columns::number(refusal),
-    }
-}
-
-// The number of bins; 0 where the call refuses.
-pub fn bin_count_bins(answer: BinCount) -> usize
-    ensures { result ≡ bin_count_bins answer }
-{
-    match answer {
-        BinCount::Bins(bins) => bins,
-        BinCount::Refused(_) => 0,
-    }
 }

@@ -7,17 +7,15 @@ use mathlib.Core.Bool.{Bool, true, false, false≢true}
 use Prim.Native.Nat.{ℕ, ◌*◌, ◌≤◌, ◌<◌, max}
 use native.Mathlib.Omega.{arith}
 use borrow.Author.Tests.{le-leb, lt-leb, eq-eqb, ne_eqb, eqb-true, eqb-false}
-use lib.Dec.{leb, eqb, leb→le}
+use lib.Dec.{leb, eqb}
 use lib.IntN.{ℤ}
 use lib.ListN.{length}
 use Rattle.columns.specs.Refusals.{longest}
-use Rattle.columns.specs.declared.Outcome.TheVariants.{Accepted}
-use Rattle.columns.specs.declared.Refusal.TheVariants.{TooLong, PastTheEnd}
-use Rattle.columns.proofs.Questions.{met}
+use Rattle.std.specs.Prelude.{Ok}
 use Rattle.folds.proofs.Tests.{lt_or_ge}
 use Rattle.counting.specs.Lines.{qualifies, RightLine, right_line}
 use Rattle.counting.proofs.Lines.{last_own, last_upper, right_line_lem, right_line_only}
-use Rattle.line_check.specs.Check.{per_of, counts_at, judgement, line_asked, line_answer}
+use Rattle.line_check.specs.Check.{per_of, counts_at, judgement, line_answer}
 use Rattle.line_check.specs.declared.Counts.{Counts}
 use Rattle.line_check.specs.declared.Line.TheVariants.{Right, Wrong}
 use Rattle.line_check.specs.declared.Rate.{Rate}
@@ -26,13 +24,6 @@ use Rattle.line_check.specs.declared.Rate.TheVariants.{OneIn100, OneIn20}
 pub rate_small : (rate : Rate) → per_of rate ≤ 100
 rate_small OneIn100 = omega arith
 rate_small OneIn20 = omega arith
-
--- what the questions let pass
-pub line_lengths : (labels line : ℕ) → line_asked labels line ≡ Accepted → (labels ≤ longest) × (line ≤ labels)
-line_lengths labels line e =
-    let short = met (leb labels longest) TooLong _ e in
-    let listed = met (leb line labels) PastTheEnd _ short.1 in
-    (leb→le labels longest (rw short.0 tt), leb→le line labels (rw listed.0 tt))
 
 -- no row after this one qualifies
 abbrev pub NoneLater : ℕ → List ℤ → ℕ → Type 0
@@ -61,27 +52,27 @@ module _ (per : ℕ) (labels : List ℤ) (line : ℕ) where
   -- ---- accepted
 
   module _ (short : length labels ≤ longest) (listed : line ≤ length labels) where
-    accepted : line_answer per labels line ≡ judgement per labels line
+    accepted : line_answer per labels line ≡ Ok (judgement per labels line)
     unfolding line_answer
     accepted = rw (le-leb (length labels) longest short, le-leb line (length labels) listed)
 
     -- a right line is answered with its own three numbers
-    pub right_answered : RightLine per labels line → line_answer per labels line ≡ Right (counts_at labels line)
-    right_answered r = accepted ∙ right_judged (right_line_only per labels line r listed)
+    pub right_answered : RightLine per labels line → line_answer per labels line ≡ Ok (Right (counts_at labels line))
+    right_answered r = accepted ∙ ap Ok (right_judged (right_line_only per labels line r listed))
 
     -- any other with those of the last later row that qualifies, or of the line itself
     pub wrong_answered : (RightLine per labels line → ⊥)
-        → line_answer per labels line ≡ Wrong (counts_at labels (max line (right_line per labels)))
-    wrong_answered n = accepted ∙ wrong_judged (λ (e : line ≡ right_line per labels). n (rw e (right_line_lem per labels)))
+        → line_answer per labels line ≡ Ok (Wrong (counts_at labels (max line (right_line per labels))))
+    wrong_answered n = accepted ∙ ap Ok (wrong_judged (λ (e : line ≡ right_line per labels). n (rw e (right_line_lem per labels))))
 
     -- only a right line is answered with Right
-    pub answers_right : {c : Counts} → line_answer per labels line ≡ Right c → RightLine per labels line
+    pub answers_right : {c : Counts} → line_answer per labels line ≡ Ok (Right c) → RightLine per labels line
     answers_right {c} e = go (eqb line (right_line per labels)) refl
       where
         go : (b : Bool) → eqb line (right_line per labels) ≡ b → RightLine per labels line
         go true t = rw (eqb-true line (right_line per labels) t) (right_line_lem per labels)
         go false t =
-            let z : ◌≡◌ {A = ℕ} 0 1 = cc (accepted ∙ wrong_judged (eqb-false line (right_line per labels) t)) in
+            let z : ◌≡◌ {A = ℕ} 0 1 = cc (accepted ∙ ap Ok (wrong_judged (eqb-false line (right_line per labels) t))) in
             absurd (omega arith)
 
   -- ---- as the call finds it, from the counts at the line and at the last later row that qualifies
@@ -102,12 +93,6 @@ module _ (per : ℕ) (labels : List ℤ) (line : ℕ) where
 
     right : line ≡ right_line per labels → Right own ≡ judgement per labels line
     right e = ap Right o ∙ sym (right_judged e)
-
-    pub later_qualifies : line < last.row → Wrong last ≡ judgement per labels line
-    later_qualifies h = wrong (λ (e : line ≡ right_line per labels). omega (arith, last_row))
-
-    pub no_row : last.row ≤ line → line ≡ 0 → Right own ≡ judgement per labels line
-    no_row h e = right (omega (arith, last_row))
 
     pub own_fails : (line ≡ 0 → ⊥) → own.targets < per * own.decoys_plus_one
         → Wrong last ≡ judgement per labels line

@@ -1,16 +1,15 @@
 -- The line check. Document 01, module 7: "A line that is right, as demand 3 has it, gets Right with its own three
 -- numbers (row 0 gives 0, 1, 0). Any other gets Wrong with those of the last later row that qualifies, or, if none
 -- does, of the line itself."
-use Rattle.std.specs.Prelude.{List, cond, ℕ, ◌+◌, max, leb, eqb, ℤ, length, take}
-use Rattle.columns.specs.Refusals.{longest, number_of, if_not, answered}
-use Rattle.columns.specs.declared.Outcome.{Outcome}
-use Rattle.columns.specs.declared.Outcome.TheVariants.{Accepted}
+use Rattle.std.specs.Prelude.{List, cond, ℕ, ◌+◌, max, leb, eqb, ℤ, length, take, Result, Ok, Err}
+use Rattle.columns.specs.Refusals.{longest, number_of, Asked, if_not, answered}
+use Rattle.columns.specs.declared.Refusal.{Refusal}
 use Rattle.columns.specs.declared.Refusal.TheVariants.{TooLong, PastTheEnd}
 use Rattle.counting.specs.Labels.{decoys, targets}
 use Rattle.counting.specs.Lines.{right_line}
 use Rattle.line_check.specs.declared.Counts.{Counts}
 use Rattle.line_check.specs.declared.Line.{Line}
-use Rattle.line_check.specs.declared.Line.TheVariants.{Right, Wrong, Refused}
+use Rattle.line_check.specs.declared.Line.TheVariants.{Right, Wrong}
 use Rattle.line_check.specs.declared.LineNumbers.{LineNumbers}
 use Rattle.line_check.specs.declared.Rate.{Rate}
 use Rattle.line_check.specs.declared.Rate.TheVariants.{OneIn100, OneIn20}
@@ -33,12 +32,12 @@ judgement per labels line =
     cond (eqb line right) (Right (counts_at labels line)) (Wrong (counts_at labels (max line right)))
 
 -- questions 1 and 9, of a list's length and a line
-abbrev pub line_asked : ℕ → ℕ → Outcome
-line_asked labels line = if_not (leb labels longest) TooLong (if_not (leb line labels) PastTheEnd Accepted)
+abbrev pub line_asked : ℕ → ℕ → Asked
+line_asked labels line = if_not (leb labels longest) TooLong (if_not (leb line labels) PastTheEnd (Ok tt))
 
 -- the call
-unfoldable pub line_answer : ℕ → List ℤ → ℕ → Line
-line_answer per labels line = answered (line_asked (length labels) line) (judgement per labels line) Refused
+unfoldable pub line_answer : ℕ → List ℤ → ℕ → Result Line Refusal
+line_answer per labels line = answered (line_asked (length labels) line) (Ok (judgement per labels line)) Err
 
 -- The answer as numbers: that of a refusal, or 0; then, in the port's own numbers, 1 for right and 0 for wrong; and the
 -- three counts. After a refusal all are 0 but the first.
@@ -46,7 +45,7 @@ abbrev pub judged : ℕ → Counts → LineNumbers
 judged right c =
     record { number = 0; right = right; row = c.row; decoys_plus_one = c.decoys_plus_one; targets = c.targets }
 
-abbrev pub numbers_of : Line → LineNumbers
-numbers_of (Right c) = judged 1 c
-numbers_of (Wrong c) = judged 0 c
-numbers_of (Refused r) = record { number = number_of r; right = 0; row = 0; decoys_plus_one = 0; targets = 0 }
+abbrev pub numbers_of : Result Line Refusal → LineNumbers
+numbers_of (Ok (Right c)) = judged 1 c
+numbers_of (Ok (Wrong c)) = judged 0 c
+numbers_of (Err r) = record { number = number_of r; right = 0; row = 0; decoys_plus_one = 0; targets = 0 }

@@ -7,33 +7,32 @@ ghost use Rattle.columns.specs.Refusals.{longest};
 ghost use Rattle.counting.specs.Lines.{right_line};
 ghost use Rattle.line_check.specs.Check.{per_of, counts_at, judgement, line_asked, line_answer, numbers_of};
 
-use columns::{Outcome, Refusal};
+use columns::Refusal;
 
 // The two rates that lists are sold at.
-#[derive(Clone, Copy)]
+#[derive(Clone, Copy, Debug, PartialEq, Eq, Hash)]
 pub enum Rate {
     OneIn100,
     OneIn20,
 }
 
 // A row, and the decoys plus one and the targets up to it.
-#[derive(Clone, Copy)]
+#[derive(Clone, Copy, Debug, PartialEq, Eq, Hash)]
 pub struct Counts {
     pub row: usize,
     pub decoys_plus_one: usize,
     pub targets: usize,
 }
 
-// The answer: whether the line is right, with the counts that it carries, or why the call refuses.
-#[derive(Clone, Copy)]
+// What is said of a line: whether it is right, with the counts that the answer carries.
+#[derive(Clone, Copy, Debug, PartialEq, Eq, Hash)]
 pub enum Line {
     Right(Counts),
     Wrong(Counts),
-    Refused(Refusal),
 }
 
-// A line's answer as numbers.
-#[derive(Clone, Copy)]
+// A line's answer as numbers, since those are what the C interface hands out.
+#[derive(Clone, Copy, Debug, PartialEq, Eq, Hash)]
 pub struct LineNumbers {
     pub number: u32,
     pub right: u32,
@@ -42,26 +41,26 @@ pub struct LineNumbers {
     pub targets: usize,
 }
 
-pub fn line_numbers(line: Line) -> LineNumbers
-    ensures { result ≡ numbers_of line }
+pub fn line_numbers(answer: Result<Line, Refusal>) -> LineNumbers
+    ensures { result ≡ numbers_of answer }
 {
-    match line {
-        Line::Right(c) => LineNumbers {
+    match answer {
+        Ok(Line::Right(c)) => LineNumbers {
             number: 0,
             right: 1,
             row: c.row,
             decoys_plus_one: c.decoys_plus_one,
             targets: c.targets,
         },
-        Line::Wrong(c) => LineNumbers {
+        Ok(Line::Wrong(c)) => LineNumbers {
             number: 0,
             right: 0,
             row: c.row,
             decoys_plus_one: c.decoys_plus_one,
             targets: c.targets,
         },
-        Line::Refused(refusal) => LineNumbers {
-            number: columns::number(refusal),
+        Err(refusal) => LineNumbers {
+            number: u32::from(refusal),
             right: 0,
             row: 0,
             decoys_plus_one: 0,
@@ -70,71 +69,57 @@ pub fn line_numbers(line: Line) -> LineNumbers
     }
 }
 
-// How many targets a row needs for each of its decoys plus one.
-fn per_decoy(rate: Rate) -> usize
-    ensures { result ≡ per_of rate }
-{
-    match rate {
-        Rate::OneIn100 => 100,
-        Rate::OneIn20 => 20,
+impl Rate {
+    // How many targets a row needs for each of its decoys plus one.
+    fn per_decoy(self) -> usize
+        ensures { result ≡ per_of self }
+    {
+        match self {
+            Rate::OneIn100 => 100,
+            Rate::OneIn20 => 20,
+        }
     }
 }
 
 // The counts at `row`.
+#[tactic(auto, using(counting::proofs::Labels::row_counts, crate::proofs::Later::counted_is))]
 fn count_to(labels: &[i32], row: usize) -> Counts
-    requires labels_len_bound { length labels.now ≤ longest }
-    requires row_in_bounds { row ≤ length labels.now }
+    requires { row ≤ length labels.now }
     ensures { result ≡ counts_at labels.now row }
 {
-    let mut decoys: usize = 1;
-    let mut targets: usize = 0;
-    let mut i = 0;
-    while i < row {
-        let is_decoy = (labels[i] == -1) as usize;
-        decoys += is_decoy;
-        targets += 1 - is_decoy;
-        i += 1;
-    }
+    let decoys = counting::count_decoys(&labels[..row]);
     Counts {
         row,
-        decoys_plus_one: decoys,
-        targets,
+        decoys_plus_one: decoys + 1,
+        targets: row - decoys,
     }
 }
 
 // The counts at the last row after `own` that qualifies, or those of `own` if none does. The pass goes on where `own`
 // ends.
-fn last_later(labels: &[i32], own: Counts, per: usize) -> Counts
+// The bound on the list's length is a `requires` here and in `judge`, and no struct's: `right_line`, which is public,
+// would have to ask for the same bound to build one.
+fn last_later(labels: &[i32], own: Counts, rate: Rate) -> Counts
     requires labels_len_bound { length labels.now ≤ longest }
-    requires per_bound { per ≤ 100 }
     requires row_in_bounds { own.row ≤ length labels.now }
     requires own_counts { own ≡ counts_at labels.now own.row }
     ensures { let l = labels.now in
-        result ≡ counts_at l (max own.row (right_line per l)) }
+        result ≡ counts_at l (max own.row (right_line (per_of rate) l)) }
 {
-    let mut last_row = own.row;
-    let mut last_decoys = own.decoys_plus_one;
-    let mut last_targets = own.targets;
-    let mut decoys = own.decoys_plus_one;
-    let mut targets = own.targets;
-    let mut i = own.row;
-    while i < labels.len() {
+    let per = rate.per_decoy();
+    let mut last = own;
+    let mut so_far = own;
+    for i in own.row..labels.len() {
         let is_decoy = (labels[i] == -1) as usize;
-        decoys += is_decoy;
-        targets += 1 - is_decoy;
-        i += 1;
-        if targets < per * decoys {
+        so_far.row = i + 1;
+        so_far.decoys_plus_one += is_decoy;
+        so_far.targets += 1 - is_decoy;
+        if so_far.targets < per * so_far.decoys_plus_one {
             continue;
         }
-        last_row = i;
-        last_decoys = decoys;
-        last_targets = targets;
+        last = so_far;
     }
-    Counts {
-        row: last_row,
-        decoys_plus_one: last_decoys,
-        targets: last_targets,
-    }
+    last
 }
 
 // The counts at the right line of a ranked list at `rate`: the last row that qualifies, or row 0.
@@ -147,18 +132,18 @@ pub fn right_line(labels: &[i32], rate: Rate) -> Counts
         decoys_plus_one: 1,
         targets: 0,
     };
-    last_later(labels, none, per_decoy(rate))
+    last_later(labels, none, rate)
 }
 
-// The answer for a line of the list: right where no later row qualifies, and the line is 0 or its own row qualifies.
-fn judge(labels: &[i32], line: usize, per: usize) -> Line
+// What is said of a line of the list: right where no later row qualifies, and the line is 0 or its own row qualifies.
+fn judge(labels: &[i32], line: usize, rate: Rate) -> Line
     requires labels_len_bound { length labels.now ≤ longest }
     requires line_in_bounds { line ≤ length labels.now }
-    requires per_bound { per ≤ 100 }
-    ensures { result ≡ judgement per labels.now line }
+    ensures { result ≡ judgement (per_of rate) labels.now line }
 {
+    let per = rate.per_decoy();
     let own = count_to(labels, line);
-    let last = last_later(labels, own, per);
+    let last = last_later(labels, own, rate);
     if line < last.row {
         return Line::Wrong(last);
     }
@@ -172,24 +157,22 @@ fn judge(labels: &[i32], line: usize, per: usize) -> Line
 }
 
 // Questions 1 and 9.
-fn ask(labels: usize, line: usize) -> Outcome
+fn ask(labels: usize, line: usize) -> Result<(), Refusal>
     ensures { result ≡ line_asked labels line }
 {
     if columns::LONGEST < labels {
-        return Outcome::Refused(Refusal::TooLong);
+        return Err(Refusal::TooLong);
     }
     if labels < line {
-        return Outcome::Refused(Refusal::PastTheEnd);
+        return Err(Refusal::PastTheEnd);
     }
-    Outcome::Accepted
+    Ok(())
 }
 
 // Whether `line` is the right line of a ranked list at `rate`.
-pub fn check_line(labels: &[i32], line: usize, rate: Rate) -> Line
+pub fn check_line(labels: &[i32], line: usize, rate: Rate) -> Result<Line, Refusal>
     ensures { result ≡ line_answer (per_of rate) labels.now line }
 {
-    match ask(labels.len(), line) {
-        Outcome::Refused(refusal) => Line::Refused(refusal),
-        Outcome::Accepted => judge(labels, line, per_decoy(rate)),
-    }
+    ask(labels.len(), line)?;
+    Ok(judge(labels, line, rate))
 }

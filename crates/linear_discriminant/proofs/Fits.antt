@@ -1,5 +1,5 @@
 -- The passes joined: what `fit` makes of the counts is the definition's system.
-use mathlib.Core.Path.{◌≡◌, sym, ap, ◌∙◌}
+use mathlib.Core.Path.{◌≡◌, ap, ◌∙◌}
 use mathlib.Core.List.{List, [], ◌∷◌}
 use mathlib.Core.Bool.{cond}
 use Prim.Native.Nat.{ℕ, ◌<◌}
@@ -13,14 +13,9 @@ use Rattle.counting.specs.Labels.{decoys, targets}
 use Rattle.floats.specs.Constants.{f64_zero}
 use Rattle.gauss.specs.Elimination.{Vector, Matrix, row, entry}
 use Rattle.gauss.specs.Solutions.{solution}
-use Rattle.gauss.specs.declared.Solved.{Solved}
-use Rattle.gauss.specs.declared.Solved.TheVariants as solved
-use Rattle.gauss.specs.declared.Solution.{Solution}
-use Rattle.linear_discriminant.specs.declared.Trained.{Trained}
-use Rattle.linear_discriminant.specs.declared.Trained.TheVariants.{Coefficients, Refused}
-use Rattle.linear_discriminant.specs.declared.Model.{Model}
+use Rattle.std.specs.Prelude.{Result}
 use Rattle.linear_discriminant.specs.Rows.{feature}
-use Rattle.linear_discriminant.specs.Fit.{in_class, class_count, f64_of_count, summed, mean, scatter, scatter_within, mean_difference, left_side, right_side, trained_of, model_of}
+use Rattle.linear_discriminant.specs.Fit.{in_class, class_count, f64_of_count, summed, mean, scatter, scatter_within, mean_difference, left_side, right_side}
 use Rattle.linear_discriminant.specs.Inner.Passes.{class_sums, mean_of, half_table, half_entry, half_tables, scatter_of, within_row, within_table, row_difference}
 use Rattle.folds.proofs.Walks.{for_range_same}
 use Rattle.folds.proofs.Writing.{tabulated_same, tabulated_at}
@@ -77,33 +72,18 @@ module _ (features : List Float) (labels : List ℤ) where
 
   -- ---- the calls of `fit` one after the other
 
-  pub fitted : {d t : ℕ} {sums left : Matrix} {decoy target right : Vector} {tables : List Matrix} {s : Solution}
-      {r : Model}
+  pub fitted : {d t : ℕ} {sums left : Matrix} {decoy target right : Vector} {tables : List Matrix}
+      {s : Result Vector Refusal}
       → d ≡ decoys labels
       → t ≡ targets labels → sums ≡ class_sums features labels → decoy ≡ mean_of (row sums 0) d
       → target ≡ mean_of (row sums 1) t
       → tables ≡ half_tables features labels (decoy ∷ target ∷ [])
       → left ≡ within_table (get_or tables 0 []) (get_or tables 1 []) (f64_of_count d) (f64_of_count t)
       → right ≡ row_difference target decoy → s ≡ solution left right 20
-      → r ≡ model_of s → r ≡ model_of (solution (left_side features labels) (right_side features labels) 20)
+      → s ≡ solution (left_side features labels) (right_side features labels) 20
   unfolding half_tables tabulated
-  fitted {d} {t} {right = right} e f a m n b l g h i =
+  fitted {d} {t} {right = right} e f a m n b l g h =
       let x = mean_row_lem 0 d (omega arith) e a m in
       let y = mean_row_lem 1 t (omega arith) f a n in
-      i
-      ∙ ap model_of
-      (h ∙ ap (λ (l : Matrix). solution l right 20) (l ∙ rw (b, x, y) (left_is e f))
-      ∙ ap (λ (v : Vector). solution (left_side features labels) v 20) (g ∙ rw (x, y) right_is))
-
--- ---- a solution as a model
-
-abbrev pub model_with : Trained → Vector → Model
-model_with answer values = record { answer = answer; coefficients = values }
-
-module _ (s : Solution) where
-  pub model_answers : s.answer ≡ solved.Answer → model_with Coefficients s.values ≡ model_of s
-  model_answers e = sym (ap (λ (a : Solved). model_with (trained_of a) s.values) e)
-
-  pub model_refuses : {refusal : Refusal} → s.answer ≡ solved.Refused refusal
-      → model_with (Refused refusal) s.values ≡ model_of s
-  model_refuses e = sym (ap (λ (a : Solved). model_with (trained_of a) s.values) e)
+      h ∙ ap (λ (l : Matrix). solution l right 20) (l ∙ rw (b, x, y) (left_is e f))
+      ∙ ap (λ (v : Vector). solution (left_side features labels) v 20) (g ∙ rw (x, y) right_is)

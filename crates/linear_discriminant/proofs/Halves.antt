@@ -1,39 +1,17 @@
--- Places of the half of the scatter that is kept: a kept row's columns, and in which table row columns j and k meet.
+-- Places of the half of the scatter that is kept: in which table row columns j and k meet.
 -- The facts on places are tests over the 400 pairs, computed.
 use mathlib.Core.Path.{◌≡◌, sym, ap, ◌∙◌, subst}
 use mathlib.Core.Logic.{◌⊎◌, inl, inr}
-use mathlib.Core.List.{List}
 use mathlib.Core.Bool.{Bool, true, false, not, cond, ◌||◌}
-use Prim.Native.Nat.{ℕ, ◌-◌, ◌≤◌, ◌<◌}
+use Prim.Native.Nat.{ℕ, ◌≤◌, ◌<◌}
 use native.Mathlib.Omega.{arith}
 use lib.Dec.{T, ltb, eqb, eqb→eq, ltb→lt, lt→ltb}
-use lib.ListN.{get_or}
-use lib.Ieee.{Float, nan, binary64, sub}
 use borrow.Author.Tests.{lt-ltb, le-ltb}
 use Rattle.folds.specs.Walks.{every}
 use Rattle.folds.proofs.Tests.{or_split}
 use Rattle.folds.proofs.Walks.{every_at}
 use Rattle.gauss.specs.Elimination.{Matrix, entry}
-use Rattle.linear_discriminant.specs.Rows.{feature}
-use Rattle.linear_discriminant.specs.Inner.Passes.{wrap, centred_at, stored_width, stored_column, stored_place, scatter_of}
-
--- ---- a kept row's columns
-
-wrap_low : (q : ℕ) → q < 20 → wrap q ≡ q
-wrap_low q h = rw (lt-ltb q 20 h)
-
-wrap_high : (q : ℕ) → 20 ≤ q → q < 28 → wrap (q - 20) ≡ wrap q
-wrap_high q h l =
-    let z : q - 20 < 20 = omega arith in
-    rw (lt-ltb (q - 20) 20 z, le-ltb q 20 h)
-
-module _ (features mean : List Float) (i : ℕ) where
-  pub centred_low : (q : ℕ) → q < 20
-      → sub binary64 (feature features i q) (get_or mean q nan) ≡ centred_at features mean i q
-  centred_low q h = rw (wrap_low q h)
-
-  pub centred_high : (q : ℕ) → 20 ≤ q → q < 28 → centred_at features mean i (q - 20) ≡ centred_at features mean i q
-  centred_high q h l = ap (λ (k : ℕ). sub binary64 (feature features i k) (get_or mean k nan)) (wrap_high q h l)
+use Rattle.linear_discriminant.specs.Inner.Passes.{stored_width, stored_column, stored_place, scatter_of}
 
 -- ---- where columns j and k meet
 
@@ -90,14 +68,6 @@ scatter_own table j k {d} {w} p q h =
 module _ (j k : ℕ) {d w : ℕ} where
   past : d ≡ stored_place j k → w ≡ stored_width j → w ≤ d → stored_width j ≤ stored_place j k
   past p q h = subst (λ (n : ℕ). stored_width j ≤ n) p (subst (λ (n : ℕ). n ≤ d) q h)
-
-  pub place_other : {e : ℕ} → j < 20 → k < 20 → d ≡ stored_place j k → w ≡ stored_width j → w ≤ d → e ≡ stored_place k j
-      → e < 12
-  place_other {e} g l p q h r =
-      let s = other_has j k g l (past p q h) in
-      let m = width_most k in
-      let u : stored_place k j < 12 = omega arith in
-      subst (λ (n : ℕ). n < 12) (sym r) u
 
 pub scatter_other : (table : Matrix) (j k : ℕ) {d w e : ℕ} → d ≡ stored_place j k → w ≡ stored_width j → w ≤ d
     → e ≡ stored_place k j → entry table k e ≡ scatter_of table j k

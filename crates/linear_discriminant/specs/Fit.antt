@@ -1,25 +1,18 @@
 -- The fit. Document 01, module 3: "Reference for the fit: LinearDiscriminantAnalysis::train … Sums run in row order;
 -- each scatter is divided by its class count, decoy class added first." Each sum is a definition of its own, so that
 -- its own order is all that is fixed.
-use Rattle.std.specs.Prelude.{ℕ, ◌*◌, List, Bool, cond, ◌&&◌, leb, eqb, ℤ, pos, length, get_or, Float}
+use Rattle.std.specs.Prelude.{ℕ, ◌*◌, List, Bool, cond, ◌&&◌, leb, eqb, ℤ, pos, length, get_or, Float, Result, Ok, Err}
 use Rattle.std.specs.Float.{binary64}
 use Rattle.std.specs.Float.Ieee.{add, sub, mul, div, of_int}
 use Rattle.folds.specs.Walks.{for_range}
 use Rattle.folds.specs.Lists.{tabulated}
 use Rattle.columns.specs.declared.Refusal.TheVariants.{TooLong, WrongLength, OneClass}
-use Rattle.columns.specs.declared.Outcome.{Outcome}
-use Rattle.columns.specs.declared.Outcome.TheVariants.{Accepted}
-use Rattle.columns.specs.Refusals.{longest, number_of, if_not, answered}
+use Rattle.columns.specs.declared.Refusal.{Refusal}
+use Rattle.columns.specs.Refusals.{longest, Asked, if_not, answered}
 use Rattle.counting.specs.Labels.{is_decoy, decoys, targets}
 use Rattle.floats.specs.Constants.{f64_zero}
 use Rattle.gauss.specs.Elimination.{Vector, Matrix}
-use Rattle.gauss.specs.declared.Solved.{Solved}
-use Rattle.gauss.specs.declared.Solved.TheVariants as solved
-use Rattle.gauss.specs.declared.Solution.{Solution}
-use Rattle.gauss.specs.Solutions.{solution, blank}
-use Rattle.linear_discriminant.specs.declared.Trained.{Trained}
-use Rattle.linear_discriminant.specs.declared.Trained.TheVariants.{Coefficients, Refused}
-use Rattle.linear_discriminant.specs.declared.Model.{Model}
+use Rattle.gauss.specs.Solutions.{solution}
 use Rattle.linear_discriminant.specs.Rows.{feature}
 
 -- ---- classes: "Index 0 = decoy, 1 = target"
@@ -82,35 +75,21 @@ left_side features labels = tabulated (λ j. tabulated (scatter_within features 
 unfoldable pub right_side : List Float → List ℤ → Vector
 right_side features labels = tabulated (mean_difference features labels) 0 20
 
--- ---- the model
-
--- "Did some eps solve the system? If not: 7": Gauss::solve's answer is the fit's
-abbrev pub trained_of : Solved → Trained
-trained_of solved.Answer = Coefficients
-trained_of (solved.Refused refusal) = Refused refusal
-
-abbrev pub model_of : Solution → Model
-model_of s = record { answer = trained_of s.answer; coefficients = s.values }
-
--- "A refusal returns its number", and a fit 0
-abbrev pub trained_number : Trained → ℕ
-trained_number Coefficients = 0
-trained_number (Refused refusal) = number_of refusal
-
 -- ---- train
 
 -- Questions 1, 2 and 6, of how many features, labels, decoys and targets there are: "Is every list at most 16,777,215
 -- long? … a feature column is too long above 335,544,300 numbers", "features twenty per label", and "is there a decoy
 -- and a target?"
-abbrev pub train_asked : ℕ → ℕ → ℕ → ℕ → Outcome
+abbrev pub train_asked : ℕ → ℕ → ℕ → ℕ → Asked
 train_asked features labels decoys targets =
     if_not (leb labels longest && leb features (20 * longest)) TooLong
     (if_not (eqb features (20 * labels)) WrongLength
     (if_not (leb 1 decoys && leb 1 targets) OneClass
-    Accepted))
+    (Ok tt)))
 
-unfoldable pub trained : List Float → List ℤ → Model
+-- the twenty coefficients, or a refusal: "Did some eps solve the system? If not: 7": Gauss::solve's answer is the fit's
+unfoldable pub trained : List Float → List ℤ → Result Vector Refusal
 trained features labels =
     answered (train_asked (length features) (length labels) (decoys labels) (targets labels))
-    (model_of (solution (left_side features labels) (right_side features labels) 20))
-    (λ refusal. model_of (blank refusal))
+    (solution (left_side features labels) (right_side features labels) 20)
+    Err

@@ -1,97 +1,81 @@
 // The fit: LinearDiscriminantAnalysis::train, in two passes over the rows. Index 0 is the decoys', 1 the targets'.
 ghost use Rattle.std.specs.Prelude.{◌≡◌, ◌+◌, ◌*◌, ◌≤◌, length};
 ghost use Rattle.columns.specs.Refusals.{longest};
-ghost use Rattle.gauss.specs.Solutions.{solution, blank};
-ghost use Rattle.linear_discriminant.specs.Fit.{class_count, left_side, right_side, model_of};
+ghost use Rattle.gauss.specs.Solutions.{solution};
+ghost use Rattle.linear_discriminant.specs.Fit.{class_count, left_side, right_side};
 ghost use Rattle.linear_discriminant.specs.Fit.{train_asked, trained};
 ghost use Rattle.linear_discriminant.specs.Inner.Passes.{added_row, summed_rows, class_sums, mean_of, row_difference};
 
+use crate::Rows;
 use crate::scatter::{class_scatters, scatter_within};
-use crate::{Model, Trained};
-use columns::{Outcome, Refusal};
-use gauss::{Solution, Solved};
+use columns::Refusal;
 
 // The coefficients of the linear discriminant of decoys and targets. The classes are counted first, so that all
 // questions are asked together.
-pub fn train(features: &[f64], labels: &[i32]) -> Model
+pub fn train(features: &[f64], labels: &[i32]) -> Result<[f64; 20], Refusal>
     ensures { result ≡ trained features.now labels.now }
 {
     let decoys = counting::count_decoys(labels);
     let targets = labels.len() - decoys;
-    match ask(features.len(), labels.len(), decoys, targets) {
-        Outcome::Refused(refusal) => blank_model(refusal),
-        Outcome::Accepted => fit(features, labels, decoys, targets),
-    }
+    ask(features.len(), labels.len(), decoys, targets)?;
+    fit(&Rows { features, labels }, decoys, targets)
 }
 
 // Questions 1, 2 and 6.
-fn ask(features: usize, labels: usize, decoys: usize, targets: usize) -> Outcome
+fn ask(features: usize, labels: usize, decoys: usize, targets: usize) -> Result<(), Refusal>
     ensures { result ≡ train_asked features labels decoys targets }
 {
     if !((labels <= columns::LONGEST) & (features <= crate::LONGEST_FEATURES)) {
-        return Outcome::Refused(Refusal::TooLong);
+        return Err(Refusal::TooLong);
     }
     if !crate::twenty_each(features, labels) {
-        return Outcome::Refused(Refusal::WrongLength);
+        return Err(Refusal::WrongLength);
     }
     if !((1 <= decoys) & (1 <= targets)) {
-        return Outcome::Refused(Refusal::OneClass);
+        return Err(Refusal::OneClass);
     }
-    Outcome::Accepted
-}
-
-// A refusal, with twenty NaN.
-fn blank_model(refusal: Refusal) -> Model
-    ensures { result ≡ model_of (blank refusal) }
-{
-    let coefficients = [0.0 / 0.0; 20];
-    Model {
-        answer: Trained::Refused(refusal),
-        coefficients,
-    }
+    Ok(())
 }
 
 // The fit of a list that has both classes: the means, the scatter within the classes, and the system's solution.
-fn fit(features: &[f64], labels: &[i32], decoys: usize, targets: usize) -> Model
-    requires lengths { (decoys ≤ longest) × (targets ≤ longest) ×
-        (length features.now ≡ 20 * length labels.now) }
-    requires counts { (decoys ≡ class_count labels.now 0) × (targets ≡ class_count labels.now 1) }
-    ensures { let left = left_side features.now labels.now in
-        let right = right_side features.now labels.now in
-        result ≡ model_of (solution left right 20) }
+fn fit(rows: &Rows, decoys: usize, targets: usize) -> Result<[f64; 20], Refusal>
+    requires lengths { (decoys ≤ longest) × (targets ≤ longest) }
+    requires counts { (decoys ≡ class_count rows.now.labels.now 0) × (targets ≡ class_count rows.now.labels.now 1) }
+    ensures { let left = left_side rows.now.features.now rows.now.labels.now in
+        let right = right_side rows.now.features.now rows.now.labels.now in
+        result ≡ solution left right 20 }
 {
-    let sums = class_sums(features, labels);
+    let sums = class_sums(rows);
     let decoy = mean_of(&sums[0], decoys);
     let target = mean_of(&sums[1], targets);
     let means = [decoy, target];
-    let tables = class_scatters(features, labels, &means);
+    let tables = class_scatters(rows, &means);
     let left = scatter_within(&tables, decoys as f64, targets as f64);
     let right = subtract_rows(&target, &decoy);
-    model_of(gauss::solve(left, right, 20))
+    gauss::solve(left, right, 20)
 }
 
 // Pass 1: the sums of both classes. Two calls keep `sum_rows` a function of its own, with the sums in memory: inlined
 // into its caller it would choose between the classes number by number.
-fn class_sums(features: &[f64], labels: &[i32]) -> [[f64; 20]; 2]
-    requires { length features.now ≡ 20 * length labels.now }
-    ensures { result ≡ class_sums features.now labels.now }
+fn class_sums(rows: &Rows) -> [[f64; 20]; 2]
+    ensures { result ≡ class_sums rows.now.features.now rows.now.labels.now }
 {
     let mut sums = [[0.0; 20]; 2];
-    let half = labels.len() / 2;
-    sum_rows(features, labels, &mut sums, 0, half);
-    sum_rows(features, labels, &mut sums, half, labels.len());
+    let half = rows.labels.len() / 2;
+    sum_rows(rows, &mut sums, 0, half);
+    sum_rows(rows, &mut sums, half, rows.labels.len());
     sums
 }
 
 // Each row from `from` up to `to` is added to its class's sums.
-fn sum_rows(features: &[f64], labels: &[i32], sums: &mut [[f64; 20]; 2], from: usize, to: usize)
-    requires { (from ≤ to) × (to ≤ length labels.now) × (length features.now ≡ 20 * length labels.now) }
-    ensures { let summed = summed_rows features.now labels.now from to in
+fn sum_rows(rows: &Rows, sums: &mut [[f64; 20]; 2], from: usize, to: usize)
+    requires { (from ≤ to) × (to ≤ length rows.now.labels.now) }
+    ensures { let summed = summed_rows rows.now.features.now rows.now.labels.now from to in
         sums.new ≡ summed sums.old }
 {
     for i in from..to {
-        let c = crate::class_of(labels[i]);
-        sums[c] = add_row(features, i, &sums[c]);
+        let c = crate::class_of(rows.labels[i]);
+        sums[c] = add_row(rows.features, i, &sums[c]);
     }
 }
 
@@ -130,22 +114,4 @@ fn subtract_rows(a: &[f64; 20], b: &[f64; 20]) -> [f64; 20]
         row[j] = a[j] - b[j];
     }
     row
-}
-
-// What a solution says of the fit.
-fn model_of(solution: Solution) -> Model
-    ensures { result ≡ model_of solution }
-{
-    let answer = solution.answer;
-    let coefficients = solution.values;
-    match answer {
-        Solved::Answer => Model {
-            answer: Trained::Coefficients,
-            coefficients,
-        },
-        Solved::Refused(refusal) => Model {
-            answer: Trained::Refused(refusal),
-            coefficients,
-        },
-    }
 }

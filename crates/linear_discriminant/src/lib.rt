@@ -6,35 +6,18 @@ mod fit;
 mod scatter;
 mod scores;
 
-ghost use Rattle.std.specs.Prelude.{◌≡◌, ◌*◌, ◌<◌, eqb};
-ghost use Rattle.linear_discriminant.specs.Fit.{class_of, trained_number};
+ghost use Rattle.std.specs.Prelude.{◌≡◌, ◌*◌, ◌<◌, eqb, length};
+ghost use Rattle.linear_discriminant.specs.Fit.{class_of};
 
-use columns::Refusal;
 pub use fit::train;
 pub use scores::{score, score_rows};
 
-// Whether a fit gives coefficients, or why not.
+// The rows of a fit: twenty features and a label each.
 #[derive(Clone, Copy)]
-pub enum Trained {
-    Coefficients,
-    Refused(Refusal),
-}
-
-// 0 for coefficients, else the question's number.
-pub fn trained_number(answer: Trained) -> u32
-    ensures { result ≡ trained_number answer }
-{
-    match answer {
-        Trained::Coefficients => 0,
-        Trained::Refused(refusal) => columns::number(refusal),
-    }
-}
-
-// That, and beside it the twenty coefficients, or twenty NaN.
-#[derive(Clone, Copy)]
-pub struct Model {
-    pub answer: Trained,
-    pub coefficients: [f64; 20],
+struct Rows<'a> {
+    features: &'a [f64],
+    labels: &'a [i32],
+    ghost twenty_each: { length features.now ≡ 20 * length labels.now },
 }
 
 // The longest feature column that question 1 lets pass: twenty numbers for each row of the longest list.

@@ -4,24 +4,21 @@ ghost use Rattle.std.specs.Prelude.{◌≡◌, [], ◌+◌, ◌*◌, ◌≤◌, 
 ghost use Rattle.linear_discriminant.specs.Inner.Passes.{centred_row, pair_added, kept_added, half_tables, scatter_of};
 ghost use Rattle.linear_discriminant.specs.Inner.Passes.{stored_place, stored_width, within_row, within_table};
 
+use crate::Rows;
+
 // Both classes' scatter. Each row is kept in its class's next place, without a branch on its label, and added when
 // sixteen are kept. Inlined, the kept rows would lie in the caller's stack while the system is solved.
 #[inline(never)]
-pub(crate) fn class_scatters(
-    features: &[f64],
-    labels: &[i32],
-    means: &[[f64; 20]; 2],
-) -> [[[f64; 12]; 20]; 2]
-    requires { length features.now ≡ 20 * length labels.now }
-    ensures { result ≡ half_tables features.now labels.now means.now }
+pub(crate) fn class_scatters(rows: &Rows, means: &[[f64; 20]; 2]) -> [[[f64; 12]; 20]; 2]
+    ensures { result ≡ half_tables rows.now.features.now rows.now.labels.now means.now }
 {
     let mut tables = [[[0.0; 12]; 20]; 2];
     let mut kept = [[[0.0; 28]; 16]; 2];
     let mut filled: [usize; 2] = [0; 2];
-    for i in 0..labels.len() {
-        let c = crate::class_of(labels[i]);
+    for (i, label) in rows.labels.iter().enumerate() {
+        let c = crate::class_of(*label);
         let m = filled[c];
-        kept[c][m] = centred(features, i, &means[c]);
+        kept[c][m] = centred(rows.features, i, &means[c]);
         if m < 15 {
             filled[c] = m + 1;
             continue;

@@ -10,7 +10,7 @@ use native.Mathlib.Omega.{arith}
 use lib.Dec.{eqb}
 use lib.IntN.{ℤ, pos}
 use lib.ListN.{length, get_or, take, drop, set, length-map, length-set, get_or-map, drop_of_length-le}
-use lib.Seq.{drop-cons, take-length, take_all}
+use lib.Seq.{drop-cons, take-length}
 use lib.Ieee.{Float, nan, binary32, le, of_bits}
 use mir.Val.{bool_byte}
 use Rattle.folds.proofs.Tests.{byte_most}
@@ -65,10 +65,6 @@ pub decoys_counted_step : (keys : List ℕ) {i decoy bit : ℕ} → DecoysCounte
 decoys_counted_step keys {i} {decoy} {bit} w h e =
     let f = w.few in
     record { high = omega arith; few = omega arith; is = omega (arith, w.is, decoys_by_key keys i h) }
-
-pub decoys_counted_done : (keys : List ℕ) {i decoy : ℕ} → DecoysCounted keys i decoy → length keys ≤ i
-    → decoy ≡ decoys (labels keys)
-decoys_counted_done keys {i} w h = w.is ∙ ap decoys (take_all i (labels keys) (omega (arith, length_labels keys)))
 
 -- ---- the q-values, from the last row up
 
@@ -194,13 +190,3 @@ module _ {keys : List ℕ} {q₀ : List Float} {i decoy target : ℕ} {least : F
   target_left =
       let t : target ≡ targets (take (j + 1) (labels keys)) = w.targets_are ∙ ap (λ (n : ℕ). targets (take n (labels keys))) e in
       omega (arith, targets_by_key keys j here)
-
-pub assigned_done : {keys : List ℕ} {q₀ : List Float} {i decoy target : ℕ} {least : Float} {passing : ℕ}
-    {q : List Float}
-    → Assigned keys q₀ i decoy target least passing q → i ≡ 0
-    → (passing ≡ targets_at_most (one_in 20) (labels keys) (q_values (labels keys)))
-    × (q ≡ scattered (map place_of keys) (q_values (labels keys)) q₀)
-assigned_done {keys} {q₀} w e = (
-  w.count_is ∙ ap (λ (n : ℕ). targets_at_most (one_in 20) (drop n (labels keys)) (drop n (q_values (labels keys)))) e,
-  w.column_is ∙ ap (λ (n : ℕ). scattered (drop n (map place_of keys)) (drop n (q_values (labels keys))) q₀) e,
-)

@@ -1,3 +1,4 @@
 pub mod Questions
+mod Keyed
 mod Assigned
 mod Joined

@@ -5,13 +5,13 @@ use borrow.Author.Tests.{leb-true, eqb-true}
 use lib.Dec.{leb, eqb}
 use Rattle.folds.proofs.Tests.{both_true}
 use Rattle.columns.specs.Refusals.{longest}
-use Rattle.columns.specs.declared.Outcome.TheVariants.{Accepted}
+use Rattle.std.specs.Prelude.{Ok}
 use Rattle.columns.specs.declared.Refusal.TheVariants.{TooLong, WrongLength}
 use Rattle.columns.proofs.Questions.{met}
 use Rattle.precursor.specs.Precursors.{precursor_asked, order_asked}
 use Rattle.precursor.specs.Inner.Ready.{PrecursorReady}
 
-pub order_lengths : (scores keys spare order : ℕ) → order_asked scores keys spare order ≡ Accepted
+pub order_lengths : (scores keys spare order : ℕ) → order_asked scores keys spare order ≡ Ok tt
     → PrecursorReady scores keys spare order
 order_lengths scores keys spare order e =
     let a = met (leb scores longest) TooLong _ e in
@@ -24,7 +24,7 @@ order_lengths scores keys spare order e =
       result_match = eqb-true order scores c.1;
     }
 
-pub precursor_lengths : (labels scores keys spare q : ℕ) → precursor_asked labels scores keys spare q ≡ Accepted
+pub precursor_lengths : (labels scores keys spare q : ℕ) → precursor_asked labels scores keys spare q ≡ Ok tt
     → (labels ≡ scores) × PrecursorReady scores keys spare q
 precursor_lengths labels scores keys spare q e =
     let a = met _ TooLong _ e in

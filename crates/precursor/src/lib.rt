@@ -1,97 +1,103 @@
 // picked_precursor of sage's fdr.rs (document 01, module 6), and the order in which it ranks its rows.
 #![tactic(auto)]
 
-ghost use Rattle.std.specs.Prelude.{◌≡◌};
+ghost use Rattle.std.specs.Prelude.{◌≡◌, ◌<◌, length, get_or, pos};
+ghost use Rattle.counting.specs.Labels.{is_decoy};
 ghost use Rattle.columns.specs.Refusals.{ranked_run};
 ghost use Rattle.precursor.specs.Precursors.{precursor_asked, picked_precursor};
 ghost use Rattle.precursor.specs.Precursors.{order_asked, order_run, precursor_order};
 
-use columns::{Counted, Outcome, Refusal};
+use columns::Refusal;
 
 mod packing;
 mod passes;
 
 // Questions 1 and 2.
-fn ask(labels: usize, scores: usize, keys: usize, spare: usize, q: usize) -> Outcome
+fn ask(labels: usize, scores: usize, keys: usize, spare: usize, q: usize) -> Result<(), Refusal>
     ensures { result ≡ precursor_asked labels scores keys spare q }
 {
     let short = (labels <= columns::LONGEST) & (scores <= columns::LONGEST);
     if !short {
-        return Outcome::Refused(Refusal::TooLong);
+        return Err(Refusal::TooLong);
     }
     let one_per_row = (scores == labels) & ((keys == labels) & ((spare == labels) & (q == labels)));
     if !one_per_row {
-        return Outcome::Refused(Refusal::WrongLength);
+        return Err(Refusal::WrongLength);
     }
-    Outcome::Accepted
+    Ok(())
 }
 
 // Q-values of precursors, at their original places, and how many targets have one of at most 0.05. The rows are ranked
-// by their peak scores as f32. `keys` and `spare` are working columns.
+// by their peak scores as f32. `keys` and `spare` are working columns, two as the C interface has them.
 pub fn picked_precursor(
     labels: &[i32],
     scores: &[f64],
     keys: &mut [u64],
     spare: &mut [u64],
     q: &mut [f32],
-) -> Counted
+) -> Result<usize, Refusal>
     ensures { let after = ranked_run result keys.new spare.new q.new in
         let run = picked_precursor labels.now scores.now in
         after ≡ run keys.old spare.old q.old }
 {
     match ask(labels.len(), scores.len(), keys.len(), spare.len(), q.len()) {
-        Outcome::Refused(refusal) => {
-            columns::blank(keys, spare, q);
-            Counted::Refused(refusal)
+        Err(refusal) => {
+            columns::clear(keys, spare);
+            columns::blank(q);
+            Err(refusal)
         }
-        Outcome::Accepted => {
-            packing::pack(labels, scores, keys);
+        Ok(()) => {
+            let decoy_at = |place: usize|
+                requires { place < length labels.now }
+                ensures { result ≡ is_decoy (get_or labels.entry.now place (pos 0)) }
+            { labels[place] == -1 };
+            packing::pack(scores, decoy_at, keys);
             ranking::sort(keys, spare);
             let passing = passes::assign_q_value(keys, q);
             columns::clear(keys, spare);
-            Counted::Passing(passing)
+            Ok(passing)
         }
     }
 }
 
 // Questions 1 and 2.
-fn ask_order(scores: usize, keys: usize, spare: usize, order: usize) -> Outcome
+fn ask_order(scores: usize, keys: usize, spare: usize, order: usize) -> Result<(), Refusal>
     ensures { result ≡ order_asked scores keys spare order }
 {
     if columns::LONGEST < scores {
-        return Outcome::Refused(Refusal::TooLong);
+        return Err(Refusal::TooLong);
     }
     let one_per_row = (keys == scores) & ((spare == scores) & (order == scores));
     if !one_per_row {
-        return Outcome::Refused(Refusal::WrongLength);
+        return Err(Refusal::WrongLength);
     }
-    Outcome::Accepted
+    Ok(())
 }
 
 // At each rank the place, from 0, of the precursor that picked_precursor ranks there: a line of a precursor list counts
-// its rows so. `keys` and `spare` are working columns.
+// its rows so. `keys` and `spare` are working columns, two as the C interface has them.
 pub fn precursor_order(
     scores: &[f64],
     keys: &mut [u64],
     spare: &mut [u64],
     order: &mut [u32],
-) -> Outcome
+) -> Result<(), Refusal>
     ensures { let after = order_run result keys.new spare.new order.new in
         let run = precursor_order scores.now in
         after ≡ run keys.old spare.old order.old }
 {
     match ask_order(scores.len(), keys.len(), spare.len(), order.len()) {
-        Outcome::Refused(refusal) => {
+        Err(refusal) => {
             columns::clear(keys, spare);
-            columns::fill_u32(order, 0xffff_ffff);
-            Outcome::Refused(refusal)
+            columns::blank(order);
+            Err(refusal)
         }
-        Outcome::Accepted => {
-            packing::pack_scores(scores, keys);
+        Ok(()) => {
+            packing::pack(scores, |_| false, keys);
             ranking::sort(keys, spare);
             passes::write_order(keys, order);
             columns::clear(keys, spare);
-            Outcome::Accepted
+            Ok(())
         }
     }
 }

@@ -14,10 +14,8 @@ fn count_decoys(keys: &[u64]) -> u32
     ensures { result ≡ decoys (map label_of keys.now) }
 {
     let mut decoy: u32 = 0;
-    let mut i: usize = 0;
-    while i < keys.len() {
-        decoy += ranking::decoy_bit(keys[i]);
-        i += 1;
+    for key in keys {
+        decoy += ranking::decoy_bit(*key);
     }
     decoy
 }
@@ -31,17 +29,15 @@ pub fn assign_q_value(keys: &[u64], q: &mut [f32]) -> usize
     ensures column { let ranked = keys.now in
         q.new ≡ scattered (map place_of ranked) (q_values (map label_of ranked)) q.old }
 {
-    let mut i = keys.len();
     let mut decoy = count_decoys(keys) + 1;
-    let mut target = (i as u32) + 1 - decoy;
+    let mut target = keys.len() as u32 + 1 - decoy;
     let mut q_min = 1.0f32;
     let mut passing: usize = 0;
-    while 0 < i {
-        i -= 1;
+    for i in (0..keys.len()).rev() {
         let key = keys[i];
         let is_decoy = ranking::decoy_bit(key);
         let ratio = floats::count_to_f32(decoy) / floats::count_to_f32(target);
-        q_min = floats::min_f32(q_min, ratio);
+        q_min = floats::min(q_min, ratio);
         q[ranking::place_of(key)] = q_min;
         passing += ((q_min <= 0.05) & (is_decoy == 0)) as usize;
         decoy -= is_decoy;
@@ -55,9 +51,7 @@ pub fn write_order(keys: &[u64], order: &mut [u32])
     requires { length order.old ≡ length keys.now }
     ensures { order.new ≡ map place_of keys.now }
 {
-    let mut i = 0;
-    while i < keys.len() {
-        order[i] = ranking::place_of(keys[i]) as u32;
-        i += 1;
+    for (i, key) in keys.iter().enumerate() {
+        order[i] = ranking::place_of(*key) as u32;
     }
 }

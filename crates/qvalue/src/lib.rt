@@ -9,9 +9,9 @@ ghost use Rattle.floats.specs.MinMax.{min_number};
 ghost use Rattle.columns.specs.Refusals.{longest};
 ghost use Rattle.floats.specs.Ratio.{one_in};
 ghost use Rattle.counting.specs.QValues.{ratios, running_minimum, count_at_most};
-ghost use Rattle.qvalue.specs.Spectrum.{spectrum_asked, spectrum_run, spectrum_q_value};
+ghost use Rattle.qvalue.specs.Spectrum.{spectrum_run, spectrum_q_value};
 
-use columns::{Counted, Outcome, Refusal};
+use columns::Refusal;
 
 // Decoys plus one, over targets, at each row.
 fn write_ratios(labels: &[i32], q: &mut [f32])
@@ -21,17 +21,15 @@ fn write_ratios(labels: &[i32], q: &mut [f32])
 {
     let mut decoy: u32 = 1;
     let mut target: u32 = 0;
-    let mut i = 0;
-    while i < labels.len() {
-        let is_decoy = (labels[i] == -1) as u32;
+    for (i, label) in labels.iter().enumerate() {
+        let is_decoy = (*label == -1) as u32;
         decoy += is_decoy;
         target += 1 - is_decoy;
         q[i] = floats::count_to_f32(decoy) / floats::count_to_f32(target);
-        i += 1;
     }
 }
 
-// floats::min_f32 where the first number is no NaN: one comparison, and no branch once compiled.
+// floats::min where the first number is no NaN: one comparison, and no branch once compiled.
 fn lower(low: f32, next: f32) -> f32
     requires { T (not (is_nan low)) }
     ensures { result ≡ min_number low next }
@@ -46,9 +44,7 @@ fn take_minima(q: &mut [f32]) -> usize
 {
     let mut q_min: f32 = 1.0;
     let mut passing = 0;
-    let mut i = q.len();
-    while 0 < i {
-        i -= 1;
+    for i in (0..q.len()).rev() {
         q_min = lower(q_min, q[i]);
         q[i] = q_min;
         passing += (q_min <= 0.01) as usize;
@@ -56,32 +52,13 @@ fn take_minima(q: &mut [f32]) -> usize
     passing
 }
 
-// Questions 1 and 2.
-fn ask(labels: usize, q: usize) -> Outcome
-    ensures { result ≡ spectrum_asked labels q }
-{
-    if columns::LONGEST < labels {
-        return Outcome::Refused(Refusal::TooLong);
-    }
-    if q != labels {
-        return Outcome::Refused(Refusal::WrongLength);
-    }
-    Outcome::Accepted
-}
-
 // Q-values of a ranked list of spectra, and how many of its rows, decoys too, have one of at most 0.01. A label of -1
 // is a decoy.
-pub fn spectrum_q_value(labels: &[i32], q: &mut [f32]) -> Counted
+pub fn spectrum_q_value(labels: &[i32], q: &mut [f32]) -> Result<usize, Refusal>
     ensures { spectrum_run result q.new ≡ spectrum_q_value labels.now q.old }
 {
-    match ask(labels.len(), q.len()) {
-        Outcome::Refused(refusal) => {
-            columns::fill_f32(q, 0.0 / 0.0);
-            Counted::Refused(refusal)
-        }
-        Outcome::Accepted => {
-            write_ratios(labels, q);
-            Counted::Passing(take_minima(q))
-        }
-    }
+    let asked = columns::ask(labels.len(), q.len());
+    columns::or_blank(asked, q)?;
+    write_ratios(labels, q);
+    Ok(take_minima(q))
 }

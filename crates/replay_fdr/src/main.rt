@@ -1,264 +1,149 @@
 // Replays recorded answers of the Rust's picked_protein and picked_protein_group. data/README.md has the layout.
 #![tactic(auto)]
 
+use competition::{Batch, Table, TableMut};
 use fdr::{Names, Settings};
 use kde::Estimator;
 use replay::Recording;
+use std::alloc::{AllocError, Global};
 use std::io;
-use std::rt::Files;
 
-fn names_of(number: u32) -> Names {
-    if number == 2 {
-        return Names::Two;
+// No recorded case has more bins, slots or rows.
+const MOST_BINS: usize = 1000;
+
+const MOST_SLOTS: usize = 210;
+
+const MOST_ROWS: usize = 240;
+
+// The rows of a case.
+#[derive(Drop)]
+struct Rows {
+    slots: Vec<u32>,
+    labels: Vec<i32>,
+    scores: Vec<f32>,
+}
+
+impl Rows {
+    fn read(alloc: Global, recording: &mut Recording<'_>, n: usize) -> Result<Rows, AllocError> {
+        Ok(Rows {
+            slots: recording.read_column(alloc, n)?,
+            labels: recording.read_column(alloc, n)?,
+            scores: recording.read_column(alloc, n)?,
+        })
     }
-    Names::One
+
+    fn batch(&self) -> Batch<'_> {
+        Batch {
+            slots: &self.slots,
+            labels: &self.labels,
+            scores: &self.scores,
+        }
+    }
 }
 
-// Whether the calls accept a table of these columns with these rows.
-fn accepted(
-    slots: &[u32],
-    labels: &[i32],
-    scores: &[f32],
-    forward: &mut [f32],
-    reverse: &mut [f32],
-    forward_seen: &mut [u32],
-    reverse_seen: &mut [u32],
-) -> bool {
-    let fresh = competition::fresh_table(forward, reverse, forward_seen, reverse_seen);
-    let added = competition::add_rows(
-        slots,
-        labels,
-        scores,
-        forward,
-        reverse,
-        forward_seen,
-        reverse_seen,
-    );
-    (columns::outcome_number(fresh) == 0) & (columns::outcome_number(added) == 0)
+// The columns of a table.
+#[derive(Drop)]
+struct Slots {
+    forward: Vec<f32>,
+    reverse: Vec<f32>,
+    forward_seen: Vec<u32>,
+    reverse_seen: Vec<u32>,
 }
 
-// Whether the q-values and the count are the recorded ones, and the working columns hold 0.
+impl Slots {
+    fn garbage(alloc: Global, slots: usize) -> Result<Slots, AllocError> {
+        Ok(Slots {
+            forward: vec![in alloc; 9.5f32; slots]?,
+            reverse: vec![in alloc; 9.5f32; slots]?,
+            forward_seen: vec![in alloc; 1u32; slots]?,
+            reverse_seen: vec![in alloc; 1u32; slots]?,
+        })
+    }
+
+    fn table(&self) -> Table<'_> {
+        Table {
+            forward: &self.forward,
+            reverse: &self.reverse,
+            forward_seen: &self.forward_seen,
+            reverse_seen: &self.reverse_seen,
+        }
+    }
+
+    fn table_mut(&mut self) -> TableMut<'_> {
+        TableMut {
+            forward: &mut self.forward,
+            reverse: &mut self.reverse,
+            forward_seen: &mut self.forward_seen,
+            reverse_seen: &mut self.reverse_seen,
+        }
+    }
+}
+
+// Whether the q-values of a table with these rows, and their count, are the recorded ones, and the working columns
+// hold 0.
 fn same_q_values(
-    recording: &mut Recording,
+    alloc: Global,
+    recording: &mut Recording<'_>,
     settings: Settings,
     bins: &[f64],
-    forward: &[f32],
-    reverse: &[f32],
-    forward_seen: &[u32],
-    reverse_seen: &[u32],
-    slots: &[u32],
-    labels: &[i32],
-    keys: &mut [u64],
-    spare: &mut [u64],
-    q: &mut [f32],
-) -> bool {
+    table: &Table<'_>,
+    rows: &Rows,
+) -> Result<bool, AllocError> {
+    let sides = table.forward.len() * 2;
+    let mut keys = vec![in alloc; 7u64; sides]?;
+    let mut spare = vec![in alloc; 7u64; sides]?;
+    let mut q = vec![in alloc; 0.025f32; rows.slots.len()]?;
     let answer = fdr::assign_q_value(
         settings,
         bins,
-        forward,
-        reverse,
-        forward_seen,
-        reverse_seen,
-        slots,
-        labels,
-        keys,
-        spare,
-        q,
+        table,
+        &rows.slots,
+        &rows.labels,
+        &mut keys,
+        &mut spare,
+        &mut q,
     );
-    let same = replay::same_f32s(recording, q);
-    let counted = replay::same_count(recording, answer);
-    same & counted & replay::all_cleared(keys) & replay::all_cleared(spare)
+    let same = recording.same_column(&q);
+    let counted = recording.same_count(answer);
+    Ok(same & counted & replay::holds_only(&keys, 0) & replay::holds_only(&spare, 0))
 }
 
-// Hands over the working and result columns.
-fn same_table(
-    recording: &mut Recording,
-    settings: Settings,
-    bins: &[f64],
-    forward: &[f32],
-    reverse: &[f32],
-    forward_seen: &[u32],
-    reverse_seen: &[u32],
-    slots: &[u32],
-    labels: &[i32],
-) -> bool {
-    let rows = slots.len();
-    if forward.len() > 210 {
-        return false;
+// Whether the next table has the recorded answers.
+fn same_case(alloc: Global, recording: &mut Recording<'_>) -> Result<bool, AllocError> {
+    let names = match recording.read::<u32>() {
+        2 => Names::Two,
+        _ => Names::One,
+    };
+    let n = recording.read_length();
+    if n > MOST_BINS {
+        return Ok(false);
     }
-    if rows > 240 {
-        return false;
-    }
-    let sides = forward.len() * 2;
-    let mut keys = [7u64; 420];
-    let mut spare = [7u64; 420];
-    let mut q = [0.025f32; 240];
-    same_q_values(
-        recording,
-        settings,
-        bins,
-        forward,
-        reverse,
-        forward_seen,
-        reverse_seen,
-        slots,
-        labels,
-        &mut keys[..sides],
-        &mut spare[..sides],
-        &mut q[..rows],
-    )
-}
-
-// Fills the table with the rows, and compares its answers with the recorded ones.
-fn same_filled(
-    recording: &mut Recording,
-    settings: Settings,
-    bins: &[f64],
-    slots: &[u32],
-    labels: &[i32],
-    scores: &[f32],
-    forward: &mut [f32],
-    reverse: &mut [f32],
-    forward_seen: &mut [u32],
-    reverse_seen: &mut [u32],
-) -> bool {
-    let filled = accepted(
-        slots,
-        labels,
-        scores,
-        forward,
-        reverse,
-        forward_seen,
-        reverse_seen,
-    );
-    let same = same_table(
-        recording,
-        settings,
-        bins,
-        forward,
-        reverse,
-        forward_seen,
-        reverse_seen,
-        slots,
-        labels,
-    );
-    filled & same
-}
-
-// Hands over a table of garbage with a given number of slots.
-fn same_slots(
-    recording: &mut Recording,
-    settings: Settings,
-    count: usize,
-    bins: &[f64],
-    slots: &[u32],
-    labels: &[i32],
-    scores: &[f32],
-) -> bool {
-    if count > 210 {
-        return false;
-    }
-    let mut forward = [9.5f32; 210];
-    let mut reverse = [9.5f32; 210];
-    let mut forward_seen = [1u32; 210];
-    let mut reverse_seen = [1u32; 210];
-    same_filled(
-        recording,
-        settings,
-        bins,
-        slots,
-        labels,
-        scores,
-        &mut forward[..count],
-        &mut reverse[..count],
-        &mut forward_seen[..count],
-        &mut reverse_seen[..count],
-    )
-}
-
-// Reads the rows.
-fn same_rows(
-    recording: &mut Recording,
-    settings: Settings,
-    count: usize,
-    bins: &[f64],
-    slots: &mut [u32],
-    labels: &mut [i32],
-    scores: &mut [f32],
-) -> bool {
-    replay::read_u32s(recording, slots);
-    replay::read_i32s(recording, labels);
-    replay::read_f32s(recording, scores);
-    same_slots(recording, settings, count, bins, slots, labels, scores)
-}
-
-// Hands over the rows' columns.
-fn same_list(recording: &mut Recording, settings: Settings, bins: &[f64]) -> bool {
-    let count = replay::read_length(recording);
-    let rows = replay::read_length(recording);
-    if rows > 240 {
-        return false;
-    }
-    let mut slots = [0u32; 240];
-    let mut labels = [0i32; 240];
-    let mut scores = [0.0f32; 240];
-    same_rows(
-        recording,
-        settings,
-        count,
-        bins,
-        &mut slots[..rows],
-        &mut labels[..rows],
-        &mut scores[..rows],
-    )
-}
-
-// Reads the bins, least score and step.
-fn same_estimated(recording: &mut Recording, names: Names, bins: &mut [f64]) -> bool {
-    replay::read_f64s(recording, bins);
-    let least = replay::read_f64(recording);
-    let step = replay::read_f64(recording);
+    let bins = recording.read_column::<f64>(alloc, n)?;
     let estimator = Estimator {
-        min_score: least,
-        score_step: step,
+        min_score: recording.read(),
+        score_step: recording.read(),
     };
-    let settings = Settings {
-        names: names,
-        estimator: estimator,
-    };
-    same_list(recording, settings, bins)
-}
-
-fn same_case(recording: &mut Recording) -> bool {
-    let names = names_of(replay::read_u32(recording));
-    let n = replay::read_length(recording);
-    if n > 1000 {
-        return false;
+    let slots = recording.read_length();
+    let n = recording.read_length();
+    if n > MOST_ROWS {
+        return Ok(false);
     }
-    let mut bins = [0.0f64; 1000];
-    same_estimated(recording, names, &mut bins[..n])
-}
-
-// How many cases differ.
-fn mismatches(recording: &mut Recording, cases: usize) -> u64 {
-    let mut differing = 0;
-    for case in 0..cases {
-        differing = replay::counted(differing, same_case(recording));
+    let rows = Rows::read(alloc, recording, n)?;
+    if slots > MOST_SLOTS {
+        return Ok(false);
     }
-    differing
-}
-
-fn replayed<R: Files + Print + AllocGlobal>(rt: &R, file: &str) -> io::Result<()> {
-    let mut recording = replay::open(rt, file)?;
-    let cases = replay::read_cases(&mut recording);
-    let differing = mismatches(&mut recording, cases);
-    replay::finish(rt, recording, file, cases, differing)
+    let mut slots = Slots::garbage(alloc, slots)?;
+    let fresh = competition::fresh_table(slots.table_mut());
+    let added = competition::add_rows(&rows.batch(), slots.table_mut());
+    let settings = Settings { names, estimator };
+    let same = same_q_values(alloc, recording, settings, &bins, &slots.table(), &rows)?;
+    Ok(fresh.is_ok() & added.is_ok() & same)
 }
 
 // Every case with a flipped bit must differ.
 fn main(rt: HostRuntime) -> io::Result<()> {
-    replayed(&rt, "picked_protein")?;
-    replayed(&rt, "picked_protein.flipped")?;
-    replayed(&rt, "picked_protein_group")?;
-    replayed(&rt, "picked_protein_group.flipped")
+    replay::replayed(&rt, "picked_protein", same_case)?;
+    replay::replayed(&rt, "picked_protein.flipped", same_case)?;
+    replay::replayed(&rt, "picked_protein_group", same_case)?;
+    replay::replayed(&rt, "picked_protein_group.flipped", same_case)
 }

@@ -1,225 +1,87 @@
 // Replays recorded answers of the Rust's Builder::build and Estimator::posterior_error. data/README.md has the layout.
 #![tactic(auto)]
 
-use kde::{Builder, Built, Estimator, Posterior};
+use kde::{Builder, Estimator};
 use replay::Recording;
+use std::alloc::{AllocError, Global};
 use std::io;
-use std::rt::Files;
 
-// The function whose answers a file has.
-#[derive(Clone, Copy)]
-enum Recorded {
-    Build,
-    PosteriorError,
-}
+// No recorded build has more rows or bins, and no estimator more bins.
+const MOST_ROWS: usize = 10;
 
-fn builder_of(monotonic: u32, bins: usize) -> Builder {
-    let fresh = Builder::default();
-    let asked = fresh.monotonic(monotonic == 1);
-    asked.bins(bins)
-}
+const MOST_BUILT: usize = 8;
+
+const MOST_BINS: usize = 40;
 
 // Whether the call accepts, and least score, step and the scores of the bins are the recorded ones.
 fn same_span(
-    recording: &mut Recording,
+    alloc: Global,
+    recording: &mut Recording<'_>,
     builder: Builder,
     scores: &[f64],
-    bin_scores: &mut [f64],
-) -> bool {
-    match kde::bin_scores(builder, scores, bin_scores) {
-        Built::Made(estimator) => {
-            let least = replay::same_f64(recording, estimator.min_score);
-            let step = replay::same_f64(recording, estimator.score_step);
-            let same = replay::same_f64s(recording, bin_scores);
-            least & step & same
-        }
-        Built::Refused(refusal) => false,
-    }
+) -> Result<bool, AllocError> {
+    let mut bin_scores = vec![in alloc; 9.0f64; builder.bins]?;
+    let Ok(estimator) = kde::bin_scores(builder, scores, &mut bin_scores) else {
+        return Ok(false);
+    };
+    let least = recording.same(estimator.min_score);
+    let step = recording.same(estimator.score_step);
+    Ok(least & step & recording.same_column(&bin_scores))
 }
 
 // Whether the call accepts, and the bins from the recorded densities are the recorded ones.
 fn same_bins(
-    recording: &mut Recording,
+    alloc: Global,
+    recording: &mut Recording<'_>,
     builder: Builder,
     labels: &[i32],
-    decoy: &mut [f64],
-    target: &mut [f64],
-    bins: &mut [f64],
-) -> bool {
-    replay::read_f64s(recording, decoy);
-    replay::read_f64s(recording, target);
-    let answer = kde::posterior_bins(builder, labels, decoy, target, bins);
-    let same = replay::same_f64s(recording, bins);
-    same & (columns::outcome_number(answer) == 0)
+) -> Result<bool, AllocError> {
+    let decoy = recording.read_column::<f64>(alloc, builder.bins)?;
+    let target = recording.read_column::<f64>(alloc, builder.bins)?;
+    let mut bins = vec![in alloc; 9.0f64; builder.bins]?;
+    let answer = kde::posterior_bins(builder, labels, &decoy, &target, &mut bins);
+    Ok(recording.same_column(&bins) & answer.is_ok())
 }
 
-// Whether a build of these rows has the recorded answers.
-fn same_columns(
-    recording: &mut Recording,
-    builder: Builder,
-    labels: &[i32],
-    scores: &[f64],
-    bin_scores: &mut [f64],
-    decoy: &mut [f64],
-    target: &mut [f64],
-    bins: &mut [f64],
-) -> bool {
-    let spread = same_span(recording, builder, scores, bin_scores);
-    let mixed = same_bins(recording, builder, labels, decoy, target, bins);
-    spread & mixed
+// Whether the next build has the recorded answers.
+fn same_build(alloc: Global, recording: &mut Recording<'_>) -> Result<bool, AllocError> {
+    let monotonic = recording.read::<u32>() == 1;
+    let bins = recording.read_length();
+    let rows = recording.read_length();
+    if rows > MOST_ROWS {
+        return Ok(false);
+    }
+    let labels = recording.read_column::<i32>(alloc, rows)?;
+    let scores = recording.read_column::<f64>(alloc, rows)?;
+    if bins > MOST_BUILT {
+        return Ok(false);
+    }
+    let builder = Builder::default().monotonic(monotonic).bins(bins);
+    let spread = same_span(alloc, recording, builder, &scores)?;
+    let mixed = same_bins(alloc, recording, builder, &labels)?;
+    Ok(spread & mixed)
 }
 
-// The same with a given number of bins.
-fn same_with(
-    recording: &mut Recording,
-    monotonic: u32,
-    n: usize,
-    labels: &[i32],
-    scores: &[f64],
-    bin_scores: &mut [f64],
-    decoy: &mut [f64],
-    target: &mut [f64],
-    bins: &mut [f64],
-) -> bool {
-    if n > bin_scores.len() {
-        return false;
+// Whether the next estimator gives the recorded error of the recorded score.
+fn same_error(alloc: Global, recording: &mut Recording<'_>) -> Result<bool, AllocError> {
+    let n = recording.read_length();
+    if n > MOST_BINS {
+        return Ok(false);
     }
-    if n > decoy.len() {
-        return false;
-    }
-    if n > target.len() {
-        return false;
-    }
-    if n > bins.len() {
-        return false;
-    }
-    same_columns(
-        recording,
-        builder_of(monotonic, n),
-        labels,
-        scores,
-        &mut bin_scores[..n],
-        &mut decoy[..n],
-        &mut target[..n],
-        &mut bins[..n],
-    )
-}
-
-// Hands over columns for up to eight bins.
-fn same_rows(
-    recording: &mut Recording,
-    monotonic: u32,
-    n: usize,
-    labels: &[i32],
-    scores: &[f64],
-) -> bool {
-    let mut bin_scores = [9.0f64; 8];
-    let mut decoy = [9.0f64; 8];
-    let mut target = [9.0f64; 8];
-    let mut bins = [9.0f64; 8];
-    same_with(
-        recording,
-        monotonic,
-        n,
-        labels,
-        scores,
-        &mut bin_scores,
-        &mut decoy,
-        &mut target,
-        &mut bins,
-    )
-}
-
-// Reads the first `rows` labels and scores.
-fn same_list(
-    recording: &mut Recording,
-    monotonic: u32,
-    n: usize,
-    rows: usize,
-    labels: &mut [i32],
-    scores: &mut [f64],
-) -> bool {
-    if rows > labels.len() {
-        return false;
-    }
-    if rows > scores.len() {
-        return false;
-    }
-    replay::read_i32s(recording, &mut labels[..rows]);
-    replay::read_f64s(recording, &mut scores[..rows]);
-    same_rows(recording, monotonic, n, &labels[..rows], &scores[..rows])
-}
-
-fn same_build(recording: &mut Recording) -> bool {
-    let mut labels = [0i32; 10];
-    let mut scores = [0.0f64; 10];
-    let monotonic = replay::read_u32(recording);
-    let n = replay::read_length(recording);
-    let rows = replay::read_length(recording);
-    same_list(recording, monotonic, n, rows, &mut labels, &mut scores)
-}
-
-// Whether an estimator with these bins gives the recorded error of the recorded score.
-fn same_at(recording: &mut Recording, bins: &[f64]) -> bool {
-    let least = replay::read_f64(recording);
-    let step = replay::read_f64(recording);
-    let score = replay::read_f64(recording);
+    let bins = recording.read_column::<f64>(alloc, n)?;
     let estimator = Estimator {
-        min_score: least,
-        score_step: step,
+        min_score: recording.read(),
+        score_step: recording.read(),
     };
-    match kde::posterior_error(estimator, bins, score) {
-        Posterior::Error(error) => replay::same_f64(recording, error),
-        Posterior::Refused(refusal) => false,
-    }
-}
-
-// Reads the first `n` bins.
-fn same_on(recording: &mut Recording, n: usize, bins: &mut [f64]) -> bool {
-    if n > bins.len() {
-        return false;
-    }
-    replay::read_f64s(recording, &mut bins[..n]);
-    same_at(recording, &bins[..n])
-}
-
-fn same_error(recording: &mut Recording) -> bool {
-    let mut bins = [0.0f64; 40];
-    let n = replay::read_length(recording);
-    same_on(recording, n, &mut bins)
-}
-
-fn same_case(recording: &mut Recording, recorded: Recorded) -> bool {
-    match recorded {
-        Recorded::Build => same_build(recording),
-        Recorded::PosteriorError => same_error(recording),
-    }
-}
-
-// How many cases differ.
-fn mismatches(recording: &mut Recording, recorded: Recorded, cases: usize) -> u64 {
-    let mut differing = 0;
-    for case in 0..cases {
-        differing = replay::counted(differing, same_case(recording, recorded));
-    }
-    differing
-}
-
-fn replayed<R: Files + Print + AllocGlobal>(
-    rt: &R,
-    recorded: Recorded,
-    file: &str,
-) -> io::Result<()> {
-    let mut recording = replay::open(rt, file)?;
-    let cases = replay::read_cases(&mut recording);
-    let differing = mismatches(&mut recording, recorded, cases);
-    replay::finish(rt, recording, file, cases, differing)
+    let score = recording.read::<f64>();
+    let answer = kde::posterior_error(estimator, &bins, score);
+    Ok(answer.is_ok_and(|error| recording.same(error)))
 }
 
 // Every case with a flipped bit must differ.
 fn main(rt: HostRuntime) -> io::Result<()> {
-    replayed(&rt, Recorded::Build, "build")?;
-    replayed(&rt, Recorded::Build, "build.flipped")?;
-    replayed(&rt, Recorded::PosteriorError, "posterior_error")?;
-    replayed(&rt, Recorded::PosteriorError, "posterior_error.flipped")
+    replay::replayed(&rt, "build", same_build)?;
+    replay::replayed(&rt, "build.flipped", same_build)?;
+    replay::replayed(&rt, "posterior_error", same_error)?;
+    replay::replayed(&rt, "posterior_error.flipped", same_error)
 }

@@ -1,12 +1,13 @@
 // Module 5, competitions.
 ghost use Rattle.std.specs.Prelude.{◌≡◌};
-ghost use Rattle.columns.specs.Refusals.{outcome_number, counted_number, counted_count, ◌and◌};
+ghost use Rattle.columns.specs.Refusals.{answer_number, answer_count, ◌and◌};
 ghost use Rattle.competition.specs.Tables.{table_of, fresh_table};
 ghost use Rattle.competition.specs.Batches.{batch_of, add_rows};
 ghost use Rattle.competition.specs.Winners.{winners};
 ghost use Rattle.fdr.specs.NameQValues.{assign_q_value};
 ghost use Rattle.vayemuku.specs.Numbers.{names_of, settings_of};
 
+use competition::{Batch, Table, TableMut};
 use fdr::{Names, Settings};
 use kde::Estimator;
 
@@ -21,9 +22,15 @@ pub extern "C" fn vayemuku_fresh_table(
     ensures { let initial = table_of forward.old reverse.old forward_seen.old reverse_seen.old in
         let after = table_of forward.new reverse.new forward_seen.new reverse_seen.new in
         let run = fresh_table initial in
-        result and after ≡ outcome_number run.answer and run.table }
+        result and after ≡ answer_number run.answer and run.table }
 {
-    columns::outcome_number(competition::fresh_table(forward, reverse, forward_seen, reverse_seen))
+    let table = TableMut {
+        forward,
+        reverse,
+        forward_seen,
+        reverse_seen,
+    };
+    columns::answer_number(&competition::fresh_table(table))
 }
 
 // Adds a batch of rows to a table.
@@ -41,17 +48,20 @@ pub extern "C" fn vayemuku_add_rows(
         let before = table_of forward.old reverse.old forward_seen.old reverse_seen.old in
         let after = table_of forward.new reverse.new forward_seen.new reverse_seen.new in
         let run = add_rows batch before in
-        result and after ≡ outcome_number run.answer and run.table }
+        result and after ≡ answer_number run.answer and run.table }
 {
-    columns::outcome_number(competition::add_rows(
+    let batch = Batch {
         slots,
         labels,
         scores,
+    };
+    let table = TableMut {
         forward,
         reverse,
         forward_seen,
         reverse_seen,
-    ))
+    };
+    columns::answer_number(&competition::add_rows(&batch, table))
 }
 
 // score() and is_decoy() of every seen slot.
@@ -67,16 +77,15 @@ pub extern "C" fn vayemuku_winners(
     ensures { let table = table_of forward.now reverse.now forward_seen.now reverse_seen.now in
         let run = winners table scores.old is_decoy.old in
         result and scores.new and is_decoy.new
-        ≡ outcome_number run.answer and run.scores and run.flags }
+        ≡ answer_number run.answer and run.scores and run.flags }
 {
-    columns::outcome_number(competition::winners(
+    let table = Table {
         forward,
         reverse,
         forward_seen,
         reverse_seen,
-        scores,
-        is_decoy,
-    ))
+    };
+    columns::answer_number(&competition::winners(&table, scores, is_decoy))
 }
 
 // 0 is one name for both sides of a slot, any other number two.
@@ -111,7 +120,7 @@ pub extern "C" fn vayemuku_assign_q_value(
         let table = table_of forward.now reverse.now forward_seen.now reverse_seen.now in
         let run = assign_q_value settings bins.now table slots.now labels.now keys.old spare.old q.old in
         result and keys.new and spare.new and q.new and count.new
-        ≡ counted_number run.answer and run.keys and run.spare and run.q and counted_count run.answer }
+        ≡ answer_number run.answer and run.keys and run.spare and run.q and answer_count run.answer }
 {
     let settings = Settings {
         names: names(two_names),
@@ -120,19 +129,13 @@ pub extern "C" fn vayemuku_assign_q_value(
             score_step,
         },
     };
-    let answer = fdr::assign_q_value(
-        settings,
-        bins,
+    let table = Table {
         forward,
         reverse,
         forward_seen,
         reverse_seen,
-        slots,
-        labels,
-        keys,
-        spare,
-        q,
-    );
-    *count = columns::counted_count(answer);
-    columns::counted_number(answer)
+    };
+    let answer = fdr::assign_q_value(settings, bins, &table, slots, labels, keys, spare, q);
+    *count = answer.unwrap_or(0);
+    columns::answer_number(&answer)
 }

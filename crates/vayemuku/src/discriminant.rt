@@ -1,9 +1,10 @@
 // Module 3, the discriminant.
 ghost use Rattle.std.specs.Prelude.{◌≡◌, get_or};
 ghost use Rattle.std.specs.Float.{nan};
-ghost use Rattle.columns.specs.Refusals.{outcome_number, ◌and◌};
+ghost use Rattle.columns.specs.Refusals.{answer_number, ◌and◌};
+ghost use Rattle.gauss.specs.Solutions.{solved_values};
 ghost use Rattle.linear_discriminant.specs.Rows.{scored};
-ghost use Rattle.linear_discriminant.specs.Fit.{trained, trained_number};
+ghost use Rattle.linear_discriminant.specs.Fit.{trained};
 ghost use Rattle.linear_discriminant.specs.Scores.{scored_rows};
 
 // `coefficients` gets the fit's twenty numbers, or twenty NaN.
@@ -13,14 +14,15 @@ pub extern "C" fn vayemuku_train(
     labels: &[i32],
     coefficients: &mut [f64; 20],
 ) -> u32
-    ensures { let model = trained features.now labels.now in
-        result and coefficients.new ≡ trained_number model.answer and model.coefficients }
+    ensures { let fitted = trained features.now labels.now in
+        result and coefficients.new ≡ answer_number fitted and solved_values fitted }
 {
-    let model = linear_discriminant::train(features, labels);
-    let numbers = model.coefficients;
-    *coefficients = numbers;
-    let answer = model.answer;
-    linear_discriminant::trained_number(answer)
+    let fitted = linear_discriminant::train(features, labels);
+    match fitted {
+        Ok(numbers) => *coefficients = numbers,
+        Err(_) => columns::blank(coefficients),
+    }
+    columns::answer_number(&fitted)
 }
 
 // The score of one row.
@@ -42,9 +44,9 @@ pub extern "C" fn vayemuku_score_rows(
     ensures { let w = coefficients.now in
         let run = scored_rows w features.now scores.old narrowed.old in
         result and scores.new and narrowed.new
-        ≡ outcome_number run.answer and run.scores and run.narrowed }
+        ≡ answer_number run.answer and run.scores and run.narrowed }
 {
-    columns::outcome_number(linear_discriminant::score_rows(
+    columns::answer_number(&linear_discriminant::score_rows(
         coefficients,
         features,
         scores,

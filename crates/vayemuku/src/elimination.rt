@@ -1,7 +1,7 @@
 // Module 2, elimination.
 ghost use Rattle.std.specs.Prelude.{◌≡◌};
-ghost use Rattle.columns.specs.Refusals.{◌and◌};
-ghost use Rattle.gauss.specs.Solutions.{solution, solved_number};
+ghost use Rattle.columns.specs.Refusals.{answer_number, ◌and◌};
+ghost use Rattle.gauss.specs.Solutions.{solution, solved_values};
 
 // `values` gets the answer, with 0 past the size, or twenty NaN.
 #[unsafe(no_mangle)]
@@ -12,11 +12,12 @@ pub extern "C" fn vayemuku_solve(
     values: &mut [f64; 20],
 ) -> u32
     ensures { let solved = solution left.now right.now size in
-        result and values.new ≡ solved_number solved.answer and solved.values }
+        result and values.new ≡ answer_number solved and solved_values solved }
 {
     let solved = gauss::solve_at(left, right, size);
-    let numbers = solved.values;
-    *values = numbers;
-    let answer = solved.answer;
-    gauss::solved_number(answer)
+    match solved {
+        Ok(numbers) => *values = numbers,
+        Err(_) => columns::blank(values),
+    }
+    columns::answer_number(&solved)
 }

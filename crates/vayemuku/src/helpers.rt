@@ -28,14 +28,14 @@ pub extern "C" fn vayemuku_widen(x: f32) -> f64
 pub extern "C" fn vayemuku_f64_to_u64(x: f64) -> u64
     ensures { result ≡ to_unsigned 64 x }
 {
-    floats::f64_to_u64(x)
+    floats::to_u64(x)
 }
 
 #[unsafe(no_mangle)]
 pub extern "C" fn vayemuku_f32_to_u64(x: f32) -> u64
     ensures { result ≡ to_unsigned 64 x }
 {
-    floats::f32_to_u64(x)
+    floats::to_u64(x)
 }
 
 // Rust's `x as usize`.
@@ -43,14 +43,14 @@ pub extern "C" fn vayemuku_f32_to_u64(x: f32) -> u64
 pub extern "C" fn vayemuku_f64_to_usize(x: f64) -> usize
     ensures { result ≡ to_unsigned 64 x }
 {
-    floats::f64_to_usize(x)
+    floats::to_usize(x)
 }
 
 #[unsafe(no_mangle)]
 pub extern "C" fn vayemuku_f32_to_usize(x: f32) -> usize
     ensures { result ≡ to_unsigned 64 x }
 {
-    floats::f32_to_usize(x)
+    floats::to_usize(x)
 }
 
 // The greatest whole number not above x.
@@ -58,14 +58,14 @@ pub extern "C" fn vayemuku_f32_to_usize(x: f32) -> usize
 pub extern "C" fn vayemuku_floor_f64(x: f64) -> f64
     ensures { result ≡ floored binary64 x }
 {
-    floats::floor_f64(x)
+    floats::floor(x)
 }
 
 #[unsafe(no_mangle)]
 pub extern "C" fn vayemuku_floor_f32(x: f32) -> f32
     ensures { result ≡ floored binary32 x }
 {
-    floats::floor_f32(x)
+    floats::floor(x)
 }
 
 // The least whole number not below x.
@@ -73,14 +73,14 @@ pub extern "C" fn vayemuku_floor_f32(x: f32) -> f32
 pub extern "C" fn vayemuku_ceil_f64(x: f64) -> f64
     ensures { result ≡ ceiled binary64 x }
 {
-    floats::ceil_f64(x)
+    floats::ceil(x)
 }
 
 #[unsafe(no_mangle)]
 pub extern "C" fn vayemuku_ceil_f32(x: f32) -> f32
     ensures { result ≡ ceiled binary32 x }
 {
-    floats::ceil_f32(x)
+    floats::ceil(x)
 }
 
 // A number that stands among the numbers as x stands in total_cmp's order.
@@ -88,14 +88,14 @@ pub extern "C" fn vayemuku_ceil_f32(x: f32) -> f32
 pub extern "C" fn vayemuku_order_key_f64(x: f64) -> u64
     ensures { result ≡ order_key binary64 x }
 {
-    floats::order_key_f64(x)
+    floats::order_key(x)
 }
 
 #[unsafe(no_mangle)]
 pub extern "C" fn vayemuku_order_key_f32(x: f32) -> u32
     ensures { result ≡ order_key binary32 x }
 {
-    floats::order_key_f32(x)
+    floats::order_key(x)
 }
 
 // Rust's a.min(b): a NaN is ignored, and of two zeros the first is kept.
@@ -103,14 +103,14 @@ pub extern "C" fn vayemuku_order_key_f32(x: f32) -> u32
 pub extern "C" fn vayemuku_min_f64(a: f64, b: f64) -> f64
     ensures { result ≡ min_number a b }
 {
-    floats::min_f64(a, b)
+    floats::min(a, b)
 }
 
 #[unsafe(no_mangle)]
 pub extern "C" fn vayemuku_min_f32(a: f32, b: f32) -> f32
     ensures { result ≡ min_number a b }
 {
-    floats::min_f32(a, b)
+    floats::min(a, b)
 }
 
 // Rust's a.max(b), likewise.
@@ -118,14 +118,14 @@ pub extern "C" fn vayemuku_min_f32(a: f32, b: f32) -> f32
 pub extern "C" fn vayemuku_max_f64(a: f64, b: f64) -> f64
     ensures { result ≡ max_number a b }
 {
-    floats::max_f64(a, b)
+    floats::max(a, b)
 }
 
 #[unsafe(no_mangle)]
 pub extern "C" fn vayemuku_max_f32(a: f32, b: f32) -> f32
     ensures { result ≡ max_number a b }
 {
-    floats::max_f32(a, b)
+    floats::max(a, b)
 }
 
 // Rust's a.total_cmp(&b), with every NaN the one above all: −1 for less, 0 for equal, 1 for greater.
@@ -133,12 +133,12 @@ pub extern "C" fn vayemuku_max_f32(a: f32, b: f32) -> f32
 pub extern "C" fn vayemuku_total_cmp_f64(a: f64, b: f64) -> i32
     ensures { result ≡ sign_of (compared a b) }
 {
-    floats::sign(floats::total_cmp_f64(a, b))
+    floats::sign(floats::total_cmp(a, b))
 }
 
 #[unsafe(no_mangle)]
 pub extern "C" fn vayemuku_total_cmp_f32(a: f32, b: f32) -> i32
     ensures { result ≡ sign_of (compared a b) }
 {
-    floats::sign(floats::total_cmp_f32(a, b))
+    floats::sign(floats::total_cmp(a, b))
 }

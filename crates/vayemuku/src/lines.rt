@@ -1,11 +1,32 @@
 // Module 7, the line check; and q-values with the check of their own line.
-ghost use Rattle.std.specs.Prelude.{◌≡◌};
+ghost use Rattle.std.specs.Prelude.{◌≡◌, Result};
 ghost use Rattle.columns.specs.Refusals.{◌and◌};
 ghost use Rattle.line_check.specs.Check.{line_answer, numbers_of};
 ghost use Rattle.qvalue.specs.Spectrum.{spectrum_q_value};
 ghost use Rattle.agreement.specs.Checked.{right_at, checked_precursors};
 
-use line_check::Rate;
+use columns::Refusal;
+use line_check::{Line, Rate};
+
+// A line's answer as C gets it: `right` gets 1 or 0, and the others the three counts.
+fn hand_over(
+    answer: Result<Line, Refusal>,
+    right: &mut u32,
+    row: &mut usize,
+    decoys_plus_one: &mut usize,
+    targets: &mut usize,
+) -> u32
+    ensures { let answer = numbers_of answer in
+        result and right.new and row.new and decoys_plus_one.new and targets.new
+        ≡ answer.number and answer.right and answer.row and answer.decoys_plus_one and answer.targets }
+{
+    let numbers = line_check::line_numbers(answer);
+    *right = numbers.right;
+    *row = numbers.row;
+    *decoys_plus_one = numbers.decoys_plus_one;
+    *targets = numbers.targets;
+    numbers.number
+}
 
 // At one in 100: `right` gets 1 or 0, and the others the three counts of the answer.
 #[unsafe(no_mangle)]
@@ -21,12 +42,8 @@ pub extern "C" fn vayemuku_check_line_100(
         result and right.new and row.new and decoys_plus_one.new and targets.new
         ≡ answer.number and answer.right and answer.row and answer.decoys_plus_one and answer.targets }
 {
-    let answer = line_check::line_numbers(line_check::check_line(labels, line, Rate::OneIn100));
-    *right = answer.right;
-    *row = answer.row;
-    *decoys_plus_one = answer.decoys_plus_one;
-    *targets = answer.targets;
-    answer.number
+    let answer = line_check::check_line(labels, line, Rate::OneIn100);
+    hand_over(answer, right, row, decoys_plus_one, targets)
 }
 
 // At one in 20, likewise.
@@ -43,12 +60,8 @@ pub extern "C" fn vayemuku_check_line_20(
         result and right.new and row.new and decoys_plus_one.new and targets.new
         ≡ answer.number and answer.right and answer.row and answer.decoys_plus_one and answer.targets }
 {
-    let answer = line_check::line_numbers(line_check::check_line(labels, line, Rate::OneIn20));
-    *right = answer.right;
-    *row = answer.row;
-    *decoys_plus_one = answer.decoys_plus_one;
-    *targets = answer.targets;
-    answer.number
+    let answer = line_check::check_line(labels, line, Rate::OneIn20);
+    hand_over(answer, right, row, decoys_plus_one, targets)
 }
 
 // Q-values of spectra, and the answer at one in 100 for the line after the last row that passes.
@@ -67,12 +80,8 @@ pub extern "C" fn vayemuku_checked_spectra(
         ≡ answer.number and run.q
         and answer.right and answer.row and answer.decoys_plus_one and answer.targets }
 {
-    let answer = line_check::line_numbers(agreement::checked_spectra(labels, q));
-    *right = answer.right;
-    *row = answer.row;
-    *decoys_plus_one = answer.decoys_plus_one;
-    *targets = answer.targets;
-    answer.number
+    let answer = agreement::checked_spectra(labels, q);
+    hand_over(answer, right, row, decoys_plus_one, targets)
 }
 
 // Q-values of precursors, the place of the precursor at each rank, and the answer at one in 20 for their line.
@@ -97,12 +106,6 @@ pub extern "C" fn vayemuku_checked_precursors(
         ≡ answer.number and run.keys and run.spare and run.ranked and run.order and run.q
         and answer.right and answer.row and answer.decoys_plus_one and answer.targets }
 {
-    let answer = line_check::line_numbers(agreement::checked_precursors(
-        labels, scores, keys, spare, ranked, order, q,
-    ));
-    *right = answer.right;
-    *row = answer.row;
-    *decoys_plus_one = answer.decoys_plus_one;
-    *targets = answer.targets;
-    answer.number
+    let answer = agreement::checked_precursors(labels, scores, keys, spare, ranked, order, q);
+    hand_over(answer, right, row, decoys_plus_one, targets)
 }

@@ -1,13 +1,14 @@
 // Module 4, posterior errors.
 ghost use Rattle.std.specs.Prelude.{◌≡◌};
-ghost use Rattle.columns.specs.Refusals.{outcome_number, ◌and◌};
-ghost use Rattle.kde.specs.Bins.{fresh_builder, estimator, bin_scores_of, built_number, built_estimator};
+ghost use Rattle.columns.specs.Refusals.{answer_number, answer_count, ◌and◌};
+ghost use Rattle.kde.specs.Bins.{fresh_builder, estimator, bin_scores_of, built_estimator};
 ghost use Rattle.kde.specs.Bins.{label_bins, slot_bins};
-ghost use Rattle.kde.specs.Estimate.{posterior_answer, posterior_number, posterior_value, posterior_errors};
-ghost use Rattle.kde.specs.Tolerances.{bin_count_answer, bin_count_number, bin_count_bins};
+ghost use Rattle.kde.specs.Estimate.{posterior_answer, posterior_value, posterior_errors};
+ghost use Rattle.kde.specs.Tolerances.{bin_count_answer};
 ghost use Rattle.kde.specs.LogErrors.{log_error, log_errors};
 ghost use Rattle.vayemuku.specs.Numbers.{builder_of, tolerance_of};
 
+use columns::HasBlank;
 use kde::{Builder, Estimator, Tolerance};
 
 // How many bins sage's builder starts with.
@@ -31,14 +32,14 @@ pub extern "C" fn vayemuku_bin_scores(
     ensures { let run = bin_scores_of (builder_of 1 bin_count) scores.now bin_scores.old in
         let built = built_estimator run.answer in
         result and bin_scores.new and min_score.new and score_step.new
-        ≡ built_number run.answer and run.bin_scores and built.min_score and built.score_step }
+        ≡ answer_number run.answer and run.bin_scores and built.min_score and built.score_step }
 {
     let builder = Builder::default().bins(bin_count);
     let answer = kde::bin_scores(builder, scores, bin_scores);
-    let estimator = kde::built_estimator(answer);
+    let estimator = answer.unwrap_or(Estimator::refused());
     *min_score = estimator.min_score;
     *score_step = estimator.score_step;
-    kde::built_number(answer)
+    columns::answer_number(&answer)
 }
 
 // Step two, over labels; any `monotonic` but 0 asks for monotonic bins.
@@ -55,10 +56,10 @@ pub extern "C" fn vayemuku_posterior_bins(
         let target = target_density.now in
         let before = bins.old in
         let run = label_bins (builder_of monotonic bin_count) labels.now decoy target before in
-        result and bins.new ≡ outcome_number run.answer and run.column }
+        result and bins.new ≡ answer_number run.answer and run.column }
 {
     let builder = Builder::default().monotonic(monotonic != 0).bins(bin_count);
-    columns::outcome_number(kde::posterior_bins(
+    columns::answer_number(&kde::posterior_bins(
         builder,
         labels,
         decoy_density,
@@ -81,10 +82,10 @@ pub extern "C" fn vayemuku_slot_posterior_bins(
         let target = target_density.now in
         let before = bins.old in
         let run = slot_bins (builder_of monotonic bin_count) is_decoy.now decoy target before in
-        result and bins.new ≡ outcome_number run.answer and run.column }
+        result and bins.new ≡ answer_number run.answer and run.column }
 {
     let builder = Builder::default().monotonic(monotonic != 0).bins(bin_count);
-    columns::outcome_number(kde::slot_posterior_bins(
+    columns::answer_number(&kde::slot_posterior_bins(
         builder,
         is_decoy,
         decoy_density,
@@ -103,15 +104,15 @@ pub extern "C" fn vayemuku_posterior_error(
     error: &mut f64,
 ) -> u32
     ensures { let answer = posterior_answer (estimator min_score score_step) bins.now score in
-        result and error.new ≡ posterior_number answer and posterior_value answer }
+        result and error.new ≡ answer_number answer and posterior_value answer }
 {
     let estimator = Estimator {
         min_score,
         score_step,
     };
     let answer = kde::posterior_error(estimator, bins, score);
-    *error = kde::posterior_value(answer);
-    kde::posterior_number(answer)
+    *error = answer.unwrap_or(f64::blank());
+    columns::answer_number(&answer)
 }
 
 // The posterior error of every score.
@@ -125,13 +126,13 @@ pub extern "C" fn vayemuku_posterior_errors(
 ) -> u32
     ensures { let built = estimator min_score score_step in
         let run = posterior_errors built bins.now scores.now errors.old in
-        result and errors.new ≡ outcome_number run.answer and run.column }
+        result and errors.new ≡ answer_number run.answer and run.column }
 {
     let estimator = Estimator {
         min_score,
         score_step,
     };
-    columns::outcome_number(kde::posterior_errors(estimator, bins, scores, errors))
+    columns::answer_number(&kde::posterior_errors(estimator, bins, scores, errors))
 }
 
 // Unit 0 is ppm and 1 is Da; any other is refused as Pct is.
@@ -151,11 +152,11 @@ fn tolerance(unit: u32, lo: f32, hi: f32) -> Tolerance
 #[unsafe(no_mangle)]
 pub extern "C" fn vayemuku_bin_count(unit: u32, lo: f32, hi: f32, bin_count: &mut usize) -> u32
     ensures { let answer = bin_count_answer (tolerance_of unit lo hi) in
-        result and bin_count.new ≡ bin_count_number answer and bin_count_bins answer }
+        result and bin_count.new ≡ answer_number answer and answer_count answer }
 {
     let answer = kde::bin_count(tolerance(unit, lo, hi));
-    *bin_count = kde::bin_count_bins(answer);
-    kde::bin_count_number(answer)
+    *bin_count = answer.unwrap_or(0);
+    columns::answer_number(&answer)
 }
 
 // The host's log10 of a posterior error, narrowed, with -324.0 for an infinity.
@@ -170,7 +171,7 @@ pub extern "C" fn vayemuku_log_error(log10: f64) -> f32
 #[unsafe(no_mangle)]
 pub extern "C" fn vayemuku_log_errors(log10s: &[f64], errors: &mut [f32]) -> u32
     ensures { let run = log_errors log10s.now errors.old in
-        result and errors.new ≡ outcome_number run.answer and run.column }
+        result and errors.new ≡ answer_number run.answer and run.column }
 {
-    columns::outcome_number(kde::log_errors(log10s, errors))
+    columns::answer_number(&kde::log_errors(log10s, errors))
 }

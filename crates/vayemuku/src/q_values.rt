@@ -1,6 +1,6 @@
 // Module 6, q-values. `count` gets the count, and the number of the refusal, or 0, is returned.
 ghost use Rattle.std.specs.Prelude.{◌≡◌};
-ghost use Rattle.columns.specs.Refusals.{outcome_number, counted_number, counted_count, ◌and◌};
+ghost use Rattle.columns.specs.Refusals.{answer_number, answer_count, ◌and◌};
 ghost use Rattle.qvalue.specs.Spectrum.{spectrum_q_value};
 ghost use Rattle.ranking.specs.Sorted.{rank_keys};
 ghost use Rattle.precursor.specs.Precursors.{picked_precursor, precursor_order};
@@ -10,11 +10,11 @@ ghost use Rattle.precursor.specs.Precursors.{picked_precursor, precursor_order};
 pub extern "C" fn vayemuku_spectrum_q_value(labels: &[i32], q: &mut [f32], count: &mut usize) -> u32
     ensures { let run = spectrum_q_value labels.now q.old in
         result and q.new and count.new
-        ≡ counted_number run.answer and run.q and counted_count run.answer }
+        ≡ answer_number run.answer and run.q and answer_count run.answer }
 {
     let answer = qvalue::spectrum_q_value(labels, q);
-    *count = columns::counted_count(answer);
-    columns::counted_number(answer)
+    *count = answer.unwrap_or(0);
+    columns::answer_number(&answer)
 }
 
 // Q-values of precursors, at their places in the list.
@@ -29,11 +29,11 @@ pub extern "C" fn vayemuku_picked_precursor(
 ) -> u32
     ensures { let run = picked_precursor labels.now scores.now keys.old spare.old q.old in
         result and keys.new and spare.new and q.new and count.new
-        ≡ counted_number run.answer and run.keys and run.spare and run.q and counted_count run.answer }
+        ≡ answer_number run.answer and run.keys and run.spare and run.q and answer_count run.answer }
 {
     let answer = precursor::picked_precursor(labels, scores, keys, spare, q);
-    *count = columns::counted_count(answer);
-    columns::counted_number(answer)
+    *count = answer.unwrap_or(0);
+    columns::answer_number(&answer)
 }
 
 // The place of the precursor at each rank.
@@ -46,16 +46,16 @@ pub extern "C" fn vayemuku_precursor_order(
 ) -> u32
     ensures { let run = precursor_order scores.now keys.old spare.old order.old in
         result and keys.new and spare.new and order.new
-        ≡ outcome_number run.answer and run.keys and run.spare and run.order }
+        ≡ answer_number run.answer and run.keys and run.spare and run.order }
 {
-    columns::outcome_number(precursor::precursor_order(scores, keys, spare, order))
+    columns::answer_number(&precursor::precursor_order(scores, keys, spare, order))
 }
 
 // The ranking alone: keys in ascending order, after a refusal as they came, and 0 in `spare`.
 #[unsafe(no_mangle)]
 pub extern "C" fn vayemuku_rank_keys(keys: &mut [u64], spare: &mut [u64]) -> u32
     ensures { let run = rank_keys keys.old spare.old in
-        result and keys.new and spare.new ≡ outcome_number run.answer and run.keys and run.spare }
+        result and keys.new and spare.new ≡ answer_number run.answer and run.keys and run.spare }
 {
-    columns::outcome_number(ranking::rank_keys(keys, spare))
+    columns::answer_number(&ranking::rank_keys(keys, spare))
 }

@@ -7,14 +7,13 @@ use Rattle.agreement.proofs.checked_precursors.Goals as goal
 
 pub make_and_check-requires : goal.make_and_check-requires
 make_and_check-requires c =
-    checked_lengths _ _ _ _ _ _ _ (sym c.ask.ensures ∙ c.in-Accepted.is)
+    checked_lengths _ _ _ _ _ _ _ (sym c.ask.ensures ∙ c.in-Ok.is)
 
-pub returns-in-Refused : goal.returns-in-Refused
+pub returns-in-Err : goal.returns-in-Err
 unfolding checked_precursors
-returns-in-Refused c =
-    let blank = c.blank.ensures in
-    rw (blank.keys, blank.spare, blank.q, c.fill_i32.ensures, c.fill_u32.ensures)
-    (sym (if_refused _ _ (sym c.ask.ensures ∙ c.in-Refused.is)))
+returns-in-Err c =
+    rw (c.clear.ensures.keys, c.clear.ensures.spare, c.fill.ensures.after (λ y e. e), c.blank.ensures, c.blank-in-Err.ensures)
+    (sym (if_refused _ _ (sym c.ask.ensures ∙ c.in-Err.is)))
 
-pub returns-in-Accepted : goal.returns-in-Accepted
-returns-in-Accepted c = c.make_and_check.ensures
+pub returns-in-Ok : goal.returns-in-Ok
+returns-in-Ok c = c.make_and_check.ensures

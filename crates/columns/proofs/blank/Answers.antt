@@ -1,7 +1,8 @@
--- `columns::blank` meets its contract: what `clear` and the fill ensure.
-use lib.Ieee.{div, of_bits}
+-- `columns::blank` meets its contract: std's `fill`, at a type whose copies are the same.
 use Rattle.columns.proofs.blank.Goals as goal
 
+pub fill-requires : goal.fill-requires
+fill-requires g c = (g.met.T.HasBlank.copies c.blank.result).0
+
 pub returns : goal.returns
-unfolding div of_bits
-returns c = record { keys = c.clear.ensures.keys; spare = c.clear.ensures.spare; q = c.fill_f32.ensures }
+returns g c = rw (← c.blank.ensures) (c.fill.ensures.after (g.met.T.HasBlank.copies c.blank.result).1)

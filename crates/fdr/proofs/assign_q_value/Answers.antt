@@ -5,16 +5,16 @@ use Rattle.fdr.proofs.Questions.{assign_ready}
 use Rattle.fdr.proofs.assign_q_value.Goals as goal
 
 pub assigned-requires : goal.assigned-requires
-assigned-requires c = assign_ready _ _ _ _ _ _ _ (sym c.ask.ensures ∙ c.in-Accepted.is)
+assigned-requires c = assign_ready _ _ _ _ _ _ _ (sym c.ask.ensures ∙ c.in-Ok.is)
 
-pub returns-in-Refused : goal.returns-in-Refused
+pub returns-in-Err : goal.returns-in-Err
 unfolding assign_q_value
-returns-in-Refused c =
-    let w = c.blank.ensures in
-    rw (w.keys, w.spare, w.q, ← c.ask.ensures, c.in-Refused.is)
+returns-in-Err c =
+    let w = c.clear.ensures in
+    rw (w.keys, w.spare, c.blank.ensures, ← c.ask.ensures, c.in-Err.is)
 
-pub returns-in-Accepted : goal.returns-in-Accepted
+pub returns-in-Ok : goal.returns-in-Ok
 unfolding assign_q_value
-returns-in-Accepted c =
+returns-in-Ok c =
     let w = c.assigned.ensures in
-    rw (w.count, w.column, w.keys, w.spare, ← c.ask.ensures, c.in-Accepted.is)
+    rw (w.count, w.column, w.keys, w.spare, ← c.ask.ensures, c.in-Ok.is)

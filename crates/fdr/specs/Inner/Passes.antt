@@ -1,14 +1,15 @@
 -- What the working columns carry from pass to pass, and what each pass asks of them. A side's key has ranking's layout,
 -- with the side's slot for the place.
 use Rattle.std.specs.Prelude.{◌≡◌, List, [], ◌∷◌, map, true, not, cond, ℕ, ◌+◌, ◌-◌, ◌*◌, ◌≤◌, ◌<◌, T, eqb, ℤ, length, get_or, set, Float}
-use Rattle.std.specs.Float.{binary32}
-use Rattle.std.specs.Float.Ieee.{is_nan, of_bits, to_bits}
+use Rattle.std.specs.Float.{nan, binary32}
+use Rattle.std.specs.Float.Ieee.{fits, is_nan, of_bits, to_bits}
 use Rattle.folds.specs.Inner.All.{All}
 use Rattle.floats.specs.Constants.{f32_one}
 use Rattle.floats.specs.MinMax.{min_number}
 use Rattle.columns.specs.Refusals.{longest}
 use Rattle.counting.specs.Labels.{is_decoy}
 use Rattle.ranking.specs.Inner.Layout.{packed, payload, upper_of, place_of, decoy_bit, with_upper}
+use Rattle.kde.specs.Bins.{InRange}
 use Rattle.competition.specs.Tables.{Table}
 use Rattle.competition.specs.Batches.{no_part, all_allowed}
 use Rattle.competition.specs.Inner.Ready.{LengthsMatch}
@@ -92,12 +93,16 @@ pub record PackReady (t : Table) (keys : ℕ) : Type 0 where
   pub lengths : LengthsMatch t
   pub keys_length : keys ≡ 2 * length t.forward
 
+-- the scores of the first n slots are f32s, as those of every column are
+pub record ScoresFit (t : Table) (n : ℕ) : Type 0 where
+  pub forward : (slot : ℕ) → slot < n → T (fits binary32 (get_or t.forward slot nan))
+  pub reverse : (slot : ℕ) → slot < n → T (fits binary32 (get_or t.reverse slot nan))
+
 -- bins in range, all keys' slots in the table, and targets few enough to be counted in f32
-pub record RatiosReady (bins forward reverse : ℕ) (keys : List ℕ) : Type 0 where
-  pub some : 1 ≤ bins
-  pub few : bins ≤ 65536
-  pub reverse_length : reverse ≡ forward
-  pub in_bounds : All (SlotInBounds forward) keys
+pub record RatiosReady (bins : ℕ) (t : Table) (keys : List ℕ) : Type 0 where
+  pub range : InRange bins
+  pub reverse_length : length t.reverse ≡ length t.forward
+  pub in_bounds : All (SlotInBounds (length t.forward)) keys
   pub countable : target_keys keys ≤ longest
 
 -- ---- what the questions let pass
@@ -107,6 +112,5 @@ pub record AssignReady (t : Table) (bins : ℕ) (slots : List ℕ) (labels keys 
   pub spare_length : spare ≡ 2 * length t.forward
   pub labels_length : labels ≡ length slots
   pub q_length : q ≡ length slots
-  pub some : 1 ≤ bins
-  pub few : bins ≤ 65536
+  pub range : InRange bins
   pub slots_allowed : all_allowed (length t.forward) slots ≡ true

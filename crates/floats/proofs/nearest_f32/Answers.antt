@@ -24,5 +24,5 @@ float_from_bits-exponent c = no_nan _ (omega (arith, exponent_lt c))
 
 pub returns : goal.returns
 returns c =
-    sum_rounds c.args.size c.max_f64-power.result (passes _ c.well_formed.0.1) c.requires.0 c.requires.1 c.if-size.false
-    (c.max_f64-power.ensures ∙ max_unit (to_bits binary64 c.args.size / 4503599627370496) (exponent_lt c.before))
+    sum_rounds c.args.size c.max-power.result (passes _ c.well_formed.0.1) c.requires.0 c.requires.1 c.if-size.false
+    (c.max-power.ensures ∙ max_unit (to_bits binary64 c.args.size / 4503599627370496) (exponent_lt c.before))

@@ -1,16 +1,11 @@
 -- `floats::whole_part` meets its contract: how far it shifts, and what it leaves, are laws of Shifted.
 use Rattle.std.proofs.Common.{arith}
 use denote.Floats.{passes}
-use Rattle.floats.proofs.Order.{le_right}
-use Rattle.floats.proofs.Convert.{half}
 use Rattle.floats.proofs.Shifted.{ShiftedDigits, shifted_digits}
 use Rattle.floats.proofs.whole_part.Goals as goal
 
 bits : (c : goal.Start) → ShiftedDigits c.args.x
 bits c = shifted_digits c.args.x (passes _ c.well_formed.0.1) c.requires.0 c.requires.1
-
-pub float_to_bits-bits : goal.float_to_bits-bits
-float_to_bits-bits c = le_right half c.args.x c.requires.0
 
 pub overflow_sub-result : goal.overflow_sub-result
 overflow_sub-result c = (bits c).most

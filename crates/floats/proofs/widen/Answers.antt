@@ -5,4 +5,4 @@ use Rattle.floats.proofs.Widening.{widened}
 use Rattle.floats.proofs.widen.Goals as goal
 
 pub returns : goal.returns
-returns c = c.f32_to_f64_with_nan.ensures ∙ sym (widened c.args.x (passes _ c.well_formed.0.1))
+returns c = c.from.ensures ∙ sym (widened c.args.x (passes _ c.well_formed.0.1))

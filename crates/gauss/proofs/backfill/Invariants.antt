@@ -1,19 +1,14 @@
 -- `gauss::backfill` meets its contract. The rows are walked from the last up (`WalkDown`), each along its columns
--- (`RowWalk`) until the first nonzero entry; the measures are the rows and the columns left.
-use Prim.Native.Nat.{◌-◌}
+-- (`RowWalk`) until the first nonzero entry.
 use Rattle.folds.proofs.Walks.{WalkDown}
 use Rattle.gauss.proofs.RowWalks.{RowWalk}
 use Rattle.gauss.specs.Elimination.{at_first_nonzero, cleared_above}
 use Rattle.gauss.proofs.backfill.Given as goal
 
 abbrev pub invariant-loop-j : goal.invariant-loop-j
-invariant-loop-j l = RowWalk l.size l.i l.j l.initial.m l.m
-
-abbrev pub decreases-loop-j : goal.decreases-loop-j
-decreases-loop-j l = l.size - l.j
+invariant-loop-j l = RowWalk l.fn.size.rows l.i l.j l.initial.m l.m
 
 abbrev pub invariant-rows : goal.invariant-rows
-invariant-rows l = WalkDown (at_first_nonzero (cleared_above l.size) l.size) l.i l.size l.initial.m l.m
-
-abbrev pub decreases-rows : goal.decreases-rows
-decreases-rows l = l.i
+invariant-rows l =
+    let size = l.fn.size.rows in
+    WalkDown (at_first_nonzero (cleared_above size) size) l.i size l.initial.m l.m

@@ -1,12 +1,8 @@
--- `gauss::clear_below` meets its contract. The loop is the walk of `cleared_below` over the rows below h; the measure
--- is what is left of the size.
-use Rattle.folds.proofs.Walks.{start, step_by, done}
+-- `gauss::clear_below` meets its contract. The loop is the walk of `cleared_below` over the rows below h.
+use Rattle.folds.proofs.Walks.{step_by, done}
 use Rattle.gauss.specs.Elimination.{cleared_below}
 use borrow.Author.Rules.{rules}
 use Rattle.gauss.proofs.clear_below.Goals as goal
-
-pub loop-i-init : goal.loop-i-init
-loop-i-init c = start (search rules)
 
 pub loop-i-preserved : goal.loop-i-preserved
 loop-i-preserved c = step_by c.loop-i.invariant (search rules) c.subtract.ensures

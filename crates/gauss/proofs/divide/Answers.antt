@@ -1,13 +1,9 @@
--- `gauss::divide` meets its contract. The loop is the walk of `row_divided` along the row; the measure is what is left
--- of the size.
-use Rattle.folds.proofs.Walks.{start, step, done}
+-- `gauss::divide` meets its contract. The loop is the walk of `row_divided` along the row.
+use Rattle.folds.proofs.Walks.{step, done}
 use Rattle.gauss.specs.Elimination.{divide_entry, row_divided}
 use mathlib.Core.Path.{ap}
 use borrow.Author.Rules.{rules}
 use Rattle.gauss.proofs.divide.Goals as goal
-
-pub loop-k-init : goal.loop-k-init
-loop-k-init c = start (search rules)
 
 pub loop-k-preserved : goal.loop-k-preserved
 loop-k-preserved c = step c.loop-k.invariant (search rules)

@@ -1,12 +1,8 @@
--- `gauss::fill_zero` meets its contract. The loop is the walk of `diagonal_filled`; the measure is what is left of the
--- size.
-use Rattle.folds.proofs.Walks.{start, step, done}
+-- `gauss::fill_zero` meets its contract. The loop is the walk of `diagonal_filled`.
+use Rattle.folds.proofs.Walks.{step, done}
 use Rattle.gauss.specs.Elimination.{diagonal_filled}
 use borrow.Author.Rules.{rules}
 use Rattle.gauss.proofs.fill_zero.Goals as goal
-
-pub loop-i-init : goal.loop-i-init
-loop-i-init c = start (search rules)
 
 pub loop-i-preserved : goal.loop-i-preserved
 loop-i-preserved c = step c.loop-i.invariant (search rules)

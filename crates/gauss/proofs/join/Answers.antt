@@ -1,19 +1,12 @@
--- `gauss::join` meets its contract. Both loops are walks: over the rows of `joined`, and along a row; the measures are
--- what is left of the size.
+-- `gauss::join` meets its contract. Both loops are walks: over the rows of `joined`, and along a row.
 use mathlib.Core.Path.{ap}
 use lib.ListN.{get_or}
 use lib.Ieee.{nan}
-use Rattle.folds.proofs.Walks.{start, step, step_by, done}
+use Rattle.folds.proofs.Walks.{step, step_by, done}
 use Rattle.gauss.specs.Elimination.{set_entry}
 use Rattle.gauss.specs.Solutions.{joined}
 use borrow.Author.Rules.{rules}
 use Rattle.gauss.proofs.join.Goals as goal
-
-pub loop-i-init : goal.loop-i-init
-loop-i-init c = start (search rules)
-
-pub loop-j-init : goal.loop-j-init
-loop-j-init c = start (search rules)
 
 pub loop-j-preserved : goal.loop-j-preserved
 loop-j-preserved c = step c.loop-j.invariant (search rules)

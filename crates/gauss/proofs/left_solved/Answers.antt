@@ -16,7 +16,7 @@ loop-j-init c = passing_start
 pub returns-then-not-entry_solved : goal.returns-then-not-entry_solved
 unfolding left_solved
 returns-then-not-entry_solved c =
-    let size = c.args.size in
+    let size = c.args.size.rows in
     let m = c.args.m.now in
     let i = c.loop-i.i in
     let unsolved = sym c.entry_solved.ensures ∙ c.if-not-entry_solved.true in

@@ -6,7 +6,7 @@ use Rattle.gauss.specs.Elimination.{larger}
 use Rattle.gauss.proofs.pivot_row.Given as goal
 
 abbrev pub invariant-loop-i : goal.invariant-loop-i
-invariant-loop-i l = Walk (larger l.m l.k) l.h l.i l.size l.initial.max l.max × (l.max.row < l.size)
+invariant-loop-i l = Walk (larger l.m l.k) l.h l.i l.fn.size.rows l.initial.max l.max × (l.max.row < l.fn.size.rows)
 
 abbrev pub decreases-loop-i : goal.decreases-loop-i
-decreases-loop-i l = l.size - l.i
+decreases-loop-i l = l.fn.size.rows - l.i

@@ -6,7 +6,7 @@ use Rattle.gauss.specs.Solutions.{joined}
 use Rattle.gauss.proofs.solve_at.Given as goal
 
 abbrev pub invariant-loop-eps : goal.invariant-loop-eps
-invariant-loop-eps l = Trying l.size (joined l.left l.right l.size) l.eps
+invariant-loop-eps l = Trying l.fn.size (joined l.left l.right l.fn.size) l.eps
 
 abbrev pub decreases-loop-eps : goal.decreases-loop-eps
 decreases-loop-eps l = tries_left l.eps

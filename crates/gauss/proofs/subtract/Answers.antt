@@ -1,13 +1,9 @@
--- `gauss::subtract` meets its contract. The loop is the walk of `row_subtracted` along the row; the measure is what is
--- left of the size.
-use Rattle.folds.proofs.Walks.{start, step, done}
+-- `gauss::subtract` meets its contract. The loop is the walk of `row_subtracted` along the row.
+use Rattle.folds.proofs.Walks.{step, done}
 use Rattle.gauss.specs.Elimination.{subtract_entry, row_subtracted}
 use mathlib.Core.Path.{ap}
 use borrow.Author.Rules.{rules}
 use Rattle.gauss.proofs.subtract.Goals as goal
-
-pub loop-c-init : goal.loop-c-init
-loop-c-init c = start (search rules)
 
 pub loop-c-preserved : goal.loop-c-preserved
 loop-c-preserved c = step c.loop-c.invariant (search rules)

@@ -1,25 +1,28 @@
 -- `qvalue::spectrum_q_value` meets its contract: the questions' answer picks what is answered and left.
-use mathlib.Core.Path.{sym, ◌∙◌}
-use lib.Ieee.{of_bits, div}
+use mathlib.Core.Path.{sym, ap, ◌∙◌}
+use lib.ListN.{length}
 use Rattle.counting.specs.QValues.{q_values}
-use Rattle.columns.proofs.Questions.{if_accepted, if_refused}
+use Rattle.columns.proofs.Questions.{if_accepted, given_back, kept}
 use Rattle.qvalue.specs.Spectrum.{spectrum_q_value}
 use Rattle.qvalue.proofs.Questions.{spectrum_lengths}
 use Rattle.qvalue.proofs.spectrum_q_value.Goals as goal
 
+pub returns-in_err-or_blank : goal.returns-in_err-or_blank
+unfolding spectrum_q_value
+returns-in_err-or_blank c =
+    let p = given_back _ c.ask-asked.ensures c.or_blank.ensures.answer c.in_err-or_blank.was c.from_residual.ensures.1 in
+    rw (p.1, c.or_blank.ensures.column, c.ask-asked.ensures, p.0)
+
 pub write_ratios-requires : goal.write_ratios-requires
 write_ratios-requires c =
-    let w = spectrum_lengths _ _ (sym c.ask.ensures ∙ c.in-Accepted.is) in
-    record { q_len = w.0; labels_len_bound = w.1 }
+    let e = sym c.ask-asked.ensures ∙ sym c.or_blank.ensures.answer ∙ c.in_ok-or_blank.was in
+    let w = spectrum_lengths _ _ e in
+    let same = kept _ _ c.or_blank.ensures.column (sym c.or_blank.ensures.answer ∙ c.in_ok-or_blank.was) in
+    record { q_len = ap length same ∙ w.0; labels_len_bound = w.1 }
 
-pub returns-in-Refused : goal.returns-in-Refused
-unfolding spectrum_q_value of_bits div
-returns-in-Refused c =
-    rw c.fill_f32.ensures
-    (sym (if_refused _ _ (sym c.ask.ensures ∙ c.in-Refused.is)))
-
-pub returns-in-Accepted : goal.returns-in-Accepted
+pub returns : goal.returns
 unfolding spectrum_q_value q_values
-returns-in-Accepted c =
+returns c =
+    let e = sym c.ask-asked.ensures ∙ sym c.or_blank.ensures.answer ∙ c.in_ok-or_blank.was in
     rw (c.take_minima.ensures.count, c.take_minima.ensures.column, c.write_ratios.ensures)
-    (sym (if_accepted _ _ (sym c.ask.ensures ∙ c.in-Accepted.is)))
+    (sym (if_accepted _ _ e))

@@ -6,6 +6,3 @@ use Rattle.qvalue.proofs.take_minima.Given as goal
 
 abbrev pub invariant-loop-i : goal.invariant-loop-i
 invariant-loop-i l = MinimumWalk (one_in 100) l.initial.q l.q l.q_min l.passing l.i
-
-abbrev pub decreases-loop-i : goal.decreases-loop-i
-decreases-loop-i l = l.i

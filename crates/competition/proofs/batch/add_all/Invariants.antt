@@ -1,16 +1,10 @@
 -- `competition::batch::add_all` meets its contract: a turn is a row's step on the table (`Adding`).
-use Prim.Native.Nat.{◌-◌}
-use lib.ListN.{length}
 use Rattle.competition.specs.Tables.{table_of}
-use Rattle.competition.specs.Batches.{batch_of}
 use Rattle.competition.proofs.RowSteps.{Adding}
 use Rattle.competition.proofs.batch.add_all.Given as goal
 
 abbrev pub invariant-loop-i : goal.invariant-loop-i
 invariant-loop-i l =
-    Adding (batch_of l.slots l.labels l.scores)
+    Adding l.batch
     (table_of l.initial.forward l.initial.reverse l.initial.forward_seen l.initial.reverse_seen)
     (table_of l.forward l.reverse l.forward_seen l.reverse_seen) l.i
-
-abbrev pub decreases-loop-i : goal.decreases-loop-i
-decreases-loop-i l = length l.slots - l.i

@@ -2,20 +2,20 @@
 use mathlib.Core.Path.{ap}
 use mathlib.Core.Bool.{not}
 use borrow.Author.Rules.{rules}
-use Rattle.competition.proofs.Slotwise.{slotwise_start, slotwise_unseen, slotwise_seen, slotwise_done}
+use Rattle.competition.proofs.Slotwise.{slotwise_unseen, slotwise_seen, slotwise_done}
 use Rattle.competition.proofs.winner.write_winners.Goals as goal
-
-pub loop-slot-init : goal.loop-slot-init
-loop-slot-init c = slotwise_start c.requires
 
 pub loop-slot-preserved-then-not-is_seen : goal.loop-slot-preserved-then-not-is_seen
 loop-slot-preserved-then-not-is_seen c =
-    slotwise_unseen c.loop-slot.invariant (search rules) c.is_seen.ensures c.is_seen-in-loop-slot.ensures (ap not c.if-not-is_seen.true)
+    slotwise_unseen c.loop-slot.invariant (search rules)
+    (rw (c.is_seen.ensures, c.is_seen-in-loop-slot.ensures, ← c.table.view_is)) (ap not c.if-not-is_seen.true)
 
 pub loop-slot-preserved : goal.loop-slot-preserved
 loop-slot-preserved c =
-    slotwise_seen c.loop-slot.invariant (search rules) c.is_seen.ensures c.is_seen-in-loop-slot.ensures (ap not c.if-not-is_seen.false) _
-    c.score.ensures c.is_decoy.ensures
+    rw c.from.ensures
+    (slotwise_seen c.loop-slot.invariant (search rules)
+    (rw (c.is_seen.ensures, c.is_seen-in-loop-slot.ensures, ← c.table.view_is)) (ap not c.if-not-is_seen.false) _
+    (rw (c.score.ensures, ← c.table.view_is)) (rw (c.is_decoy.ensures, ← c.table.view_is)))
 
 pub returns : goal.returns
 returns c =

@@ -1,23 +1,13 @@
 -- `fdr::naming::write_rows` meets its contract: the column is written from the front (`Writing`).
-use mathlib.Core.Path.{◌≡◌, ap, ◌∙◌}
-use mathlib.Core.Bool.{false}
+use mathlib.Core.Path.{ap, ◌∙◌}
 use mir.Syntax.{w32}
 use mir.ValLaws.{to_z-of_z}
-use lib.Dec.{eqb}
 use lib.IntN.{pos}
-use lib.ListN.{length, get_or}
-use Rattle.folds.proofs.Writing.{writing_start, writing_step, writing_done, all_at}
-use Rattle.competition.specs.Batches.{no_part}
-use Rattle.fdr.specs.Inner.Passes.{read_at_name, NamesInBounds}
+use lib.ListN.{get_or}
+use Rattle.folds.proofs.Writing.{writing_step, writing_done}
+use Rattle.fdr.specs.Inner.Passes.{read_at_name}
 use borrow.Author.Rules.{rules}
 use Rattle.fdr.proofs.naming.write_rows.Goals as goal
-
-pub loop-i-init : goal.loop-i-init
-loop-i-init c = writing_start c.requires.lengths.1
-
-pub row_q-requires : goal.row_q-requires
-row_q-requires c =
-    let column = length c.args.column.now in record { bits = c.requires.bits; names_in_bounds = all_at (λ n. eqb n no_part ≡ false → NamesInBounds column n) 0 c.args.slots.now c.requires.slots_in_bounds c.loop-i.i (search rules) }
 
 pub loop-i-preserved : goal.loop-i-preserved
 loop-i-preserved c =

@@ -1,5 +1,5 @@
 -- `fdr::ratios::key_number` meets its contract: the bits are no NaN's.
-use mathlib.Core.Path.{sym, subst, ap}
+use mathlib.Core.Path.{sym, subst}
 use mathlib.Core.Bool.{Bool, not}
 use Prim.Native.Nat.{ℕ}
 use lib.Dec.{T}
@@ -11,6 +11,3 @@ pub float_from_bits-result : goal.float_from_bits-result
 float_from_bits-result c =
     subst (λ (b : Bool). T (not b)) (sym (nan_bits_is binary32 _))
     (subst (λ (n : ℕ). T (not (is_nan (of_bits binary32 n)))) (sym c.upper_of.ensures) c.requires.number)
-
-pub returns : goal.returns
-returns c = ap (of_bits binary32) c.upper_of.ensures

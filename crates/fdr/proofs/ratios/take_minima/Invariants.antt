@@ -4,6 +4,3 @@ use Rattle.fdr.proofs.ratios.take_minima.Given as goal
 
 abbrev pub invariant-loop-i : goal.invariant-loop-i
 invariant-loop-i l = Minima l.initial.keys l.i l.q_min l.passing l.keys
-
-abbrev pub decreases-loop-i : goal.decreases-loop-i
-decreases-loop-i l = l.i

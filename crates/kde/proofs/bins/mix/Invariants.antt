@@ -1,6 +1,5 @@
 -- `kde::bins::mix` meets its contract: the column is written from the front (`Writing`), by the definition's own
 -- operations.
-use Prim.Native.Nat.{◌-◌}
 use lib.ListN.{length}
 use lib.Ieee.{nan}
 use Rattle.folds.proofs.Writing.{Writing}
@@ -10,6 +9,3 @@ use Rattle.kde.proofs.bins.mix.Given as goal
 abbrev pub invariant-loop-bin : goal.invariant-loop-bin
 invariant-loop-bin l = Writing (posterior_bin l.pi l.decoy_density l.target_density) nan
     (length l.initial.bins) l.bins l.bin
-
-abbrev pub decreases-loop-bin : goal.decreases-loop-bin
-decreases-loop-bin l = length l.initial.bins - l.bin

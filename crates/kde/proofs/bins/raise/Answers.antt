@@ -1,5 +1,4 @@
--- `kde::bins::raise` meets its contract: the column is raised from the back (`Raising`), and the measure is the bin's
--- number.
+-- `kde::bins::raise` meets its contract: the column is raised from the back (`Raising`).
 use Rattle.kde.specs.Bins.{raised}
 use Rattle.kde.proofs.Raising.{raising_start, raising_step, raising_done}
 use borrow.Author.Rules.{rules}
@@ -9,7 +8,7 @@ pub loop-bin-init : goal.loop-bin-init
 loop-bin-init c = raising_start _ _
 
 pub loop-bin-preserved : goal.loop-bin-preserved
-loop-bin-preserved c = raising_step _ _ c.loop-bin.invariant (search rules) c.max_f64-most.ensures
+loop-bin-preserved c = raising_step _ _ c.loop-bin.invariant (search rules) c.max-most.ensures
 
 pub returns : goal.returns
 unfolding raised

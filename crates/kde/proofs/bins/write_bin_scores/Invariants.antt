@@ -1,6 +1,5 @@
 -- `kde::bins::write_bin_scores` meets its contract: the column is written from the front (`Writing`), by the
 -- definition's own operations.
-use Prim.Native.Nat.{◌-◌}
 use lib.ListN.{length}
 use lib.Ieee.{nan}
 use Rattle.folds.proofs.Writing.{Writing}
@@ -10,6 +9,3 @@ use Rattle.kde.proofs.bins.write_bin_scores.Given as goal
 abbrev pub invariant-loop-bin : goal.invariant-loop-bin
 invariant-loop-bin l = Writing (bin_score (record { min_score = l.min_score; score_step = l.score_step })) nan
     (length l.initial.bin_scores) l.bin_scores l.bin
-
-abbrev pub decreases-loop-bin : goal.decreases-loop-bin
-decreases-loop-bin l = length l.initial.bin_scores - l.bin

@@ -1,11 +1,6 @@
 -- `kde::estimate::posterior_error` meets its contract: question 3, and then the definition by `posterior_at`.
-use mathlib.Core.Path.{sym, ◌∙◌}
 use Rattle.kde.specs.Estimate.{posterior_answer}
-use Rattle.kde.proofs.Questions.{in_range_lem}
 use Rattle.kde.proofs.estimate.posterior_error.Goals as goal
-
-pub posterior_at-requires : goal.posterior_at-requires
-posterior_at-requires c = in_range_lem _ (sym c.in_range.ensures ∙ c.if-in_range.true)
 
 pub returns-then-in_range : goal.returns-then-in_range
 unfolding posterior_answer

@@ -1,24 +1,20 @@
 -- `kde::estimate::posterior_errors` meets its contract: the questions' answer picks what the call leaves.
 use mathlib.Core.Path.{sym, ◌∙◌}
-use lib.Ieee.{of_bits, div}
-use Rattle.columns.proofs.Questions.{if_accepted, if_refused}
-use Rattle.kde.specs.Estimate.{posterior_errors}
-use Rattle.kde.proofs.Questions.{errors_passed}
+use borrow.Author.Rules.{rules}
+use Rattle.columns.proofs.Questions.{if_accepted}
+use Rattle.kde.specs.Estimate.{posterior_error, posterior_errors}
+use Rattle.columns.proofs.Questions.{given_back}
 use Rattle.kde.proofs.estimate.posterior_errors.Goals as goal
 
-pub write_errors-requires : goal.write_errors-requires
-write_errors-requires c =
-    let w = errors_passed _ _ _ (sym c.ask_errors.ensures ∙ c.in-Accepted.is) in
-    record { bins_in_bounds = w.0; errors_len = w.1 }
-
-pub returns-in-Refused : goal.returns-in-Refused
-unfolding posterior_errors of_bits div
-returns-in-Refused c =
-    rw c.fill_f64.ensures
-    (sym (if_refused _ _ (sym c.ask_errors.ensures ∙ c.in-Refused.is)))
-
-pub returns-in-Accepted : goal.returns-in-Accepted
+pub returns-in_err-or_blank : goal.returns-in_err-or_blank
 unfolding posterior_errors
-returns-in-Accepted c =
-    rw c.write_errors.ensures
-    (sym (if_accepted _ _ (sym c.ask_errors.ensures ∙ c.in-Accepted.is)))
+returns-in_err-or_blank c =
+    let p = given_back _ c.ask-asked.ensures c.or_blank.ensures.answer c.in_err-or_blank.was c.from_residual.ensures.1 in
+    rw (p.1, c.or_blank.ensures.column, c.ask-asked.ensures, p.0)
+
+pub returns : goal.returns
+unfolding posterior_errors
+returns c =
+    let a = c.args in
+    let e = sym c.ask-asked.ensures ∙ sym c.or_blank.ensures.answer ∙ c.in_ok-or_blank.was in
+    rw (c.write_each.ensures (posterior_error a.estimator a.bins.now) (λ x y p. search rules)) (sym (if_accepted _ _ e))

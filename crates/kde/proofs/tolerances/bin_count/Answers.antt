@@ -1,15 +1,7 @@
 -- `kde::tolerances::bin_count` meets its contract: one case of the definition for each case of the tolerance.
-use lib.Ieee.{of_bits, lt}
+use lib.Ieee.{of_bits}
 use Rattle.kde.specs.Tolerances.{bin_count_answer}
 use Rattle.kde.proofs.tolerances.bin_count.Goals as goal
-
-pub range_bins-requires : goal.range_bins-requires
-unfolding of_bits lt
-range_bins-requires c = tt
-
-pub range_bins-requires-in-Da : goal.range_bins-requires-in-Da
-unfolding of_bits lt
-range_bins-requires-in-Da c = tt
 
 pub returns-in-Ppm : goal.returns-in-Ppm
 unfolding of_bits bin_count_answer

@@ -5,15 +5,15 @@ use lib.Ieee.{binary32, to_unsigned}
 use Rattle.floats.specs.Whole.{ceiled}
 use Rattle.kde.specs.Tolerances.{range_bins}
 use Rattle.kde.proofs.tolerances.range_bins.Goals as goal
-use Rattle.kde.proofs.tolerances.range_bins.Goals.{After-f32_to_usize-bins}
+use Rattle.kde.proofs.tolerances.range_bins.Goals.{After-to_usize-bins}
 
-count : (c : After-f32_to_usize-bins)
-    → c.f32_to_usize-bins.result ≡ range_bins c.args.lo c.args.hi
+count : (c : After-to_usize-bins)
+    → c.to_usize-bins.result ≡ range_bins c.args.lo c.args.hi
     c.args.least
 unfolding range_bins
 count c =
-    c.f32_to_usize-bins.ensures
-    ∙ ap (to_unsigned 64) (c.ceil_f32.ensures ∙ ap (ceiled binary32) c.max_f32.ensures)
+    c.to_usize-bins.ensures
+    ∙ ap (to_unsigned 64) (c.ceil.ensures ∙ ap (ceiled binary32) c.max.ensures)
 
 pub returns-then-in_range : goal.returns-then-in_range
 returns-then-in_range c = rw (← (count c.before.before), ← c.in_range.ensures, c.if-in_range.true)

@@ -1,5 +1,4 @@
 -- `linear_discriminant::fit::add_row` meets its contract: a column written from the front.
-use Prim.Native.Nat.{◌-◌}
 use lib.ListN.{get_or}
 use lib.Ieee.{nan, binary64, add}
 use Rattle.folds.proofs.Writing.{Writing}
@@ -8,6 +7,3 @@ use Rattle.linear_discriminant.proofs.fit.add_row.Given as goal
 
 abbrev pub invariant-loop-j : goal.invariant-loop-j
 invariant-loop-j l = Writing (λ j'. add binary64 (get_or l.sum j' nan) (feature l.features l.i j')) nan 20 l.next l.j
-
-abbrev pub decreases-loop-j : goal.decreases-loop-j
-decreases-loop-j l = 20 - l.j

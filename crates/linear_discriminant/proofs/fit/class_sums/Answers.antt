@@ -9,5 +9,5 @@ use Rattle.linear_discriminant.proofs.fit.class_sums.Goals as goal
 pub returns : goal.returns
 returns c =
     let a = c.args in
-    sums_join a.features.now a.labels.now 0 (length a.labels.now / 2) (length a.labels.now) (replicate 2 (replicate 20 f64_zero)) (search rules) (search rules)
+    sums_join a.rows.now.features.now a.rows.now.labels.now 0 (length a.rows.now.labels.now / 2) (length a.rows.now.labels.now) (replicate 2 (replicate 20 f64_zero)) (search rules) (search rules)
     c.sum_rows.ensures c.sum_rows-2.ensures

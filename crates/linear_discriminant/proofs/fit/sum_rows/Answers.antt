@@ -2,21 +2,18 @@
 use lib.IntN.{pos}
 use lib.ListN.{get_or}
 use borrow.Author.Rules.{rules}
-use Rattle.folds.proofs.Walks.{start, step_by, done}
+use Rattle.folds.proofs.Walks.{step_by, done}
 use Rattle.linear_discriminant.specs.Inner.Passes.{summed_rows}
 use Rattle.linear_discriminant.proofs.Classes.{class_given, sum_turn}
 use Rattle.linear_discriminant.proofs.fit.sum_rows.Goals as goal
-
-pub loop-i-init : goal.loop-i-init
-loop-i-init c = start (search rules)
 
 pub loop-i-preserved : goal.loop-i-preserved
 loop-i-preserved c =
     let a = c.args in
     let w = c.loop-i in
     step_by w.invariant (search rules)
-    (sum_turn a.features.now a.labels.now w.i w.sums
-    (class_given (get_or a.labels.now w.i (pos 0)) c.class_of-arg-1.given c.class_of-c.ensures) c.add_row.ensures)
+    (sum_turn a.rows.now.features.now a.rows.now.labels.now w.i w.sums
+    (class_given (get_or a.rows.now.labels.now w.i (pos 0)) c.class_of-arg-1.given c.class_of-c.ensures) c.add_row.ensures)
 
 pub returns : goal.returns
 unfolding summed_rows

@@ -3,18 +3,12 @@
 use mathlib.Core.Path.{◌∙◌, ap}
 use borrow.Author.Rules.{rules}
 use Rattle.folds.specs.Walks.{for_range}
-use Rattle.folds.proofs.Walks.{start, step_by, done}
+use Rattle.folds.proofs.Walks.{step_by, done}
 use Rattle.linear_discriminant.specs.Inner.Passes.{kept_added}
 use Rattle.linear_discriminant.proofs.scatter.add_kept.Goals as goal
 
-pub loop-p-init : goal.loop-p-init
-loop-p-init c = start (search rules)
-
 pub loop-p-preserved : goal.loop-p-preserved
 loop-p-preserved c = step_by c.loop-p.invariant (search rules) c.add_pair.ensures
-
-pub loop-p-2-init : goal.loop-p-2-init
-loop-p-2-init c = start (search rules)
 
 pub loop-p-2-preserved : goal.loop-p-2-preserved
 loop-p-2-preserved c = step_by c.loop-p-2.invariant (search rules) c.add_pair-in-loop-p-2.ensures

@@ -1,6 +1,6 @@
 -- `linear_discriminant::scatter::add_kept` meets its contract: a walk over the wide pairs of rows, and one over the
 -- others.
-use Prim.Native.Nat.{◌*◌, ◌-◌}
+use Prim.Native.Nat.{◌*◌}
 use Rattle.folds.proofs.Walks.{Walk}
 use Rattle.linear_discriminant.specs.Inner.Passes.{pair_added}
 use Rattle.linear_discriminant.proofs.scatter.add_kept.Given as goal
@@ -8,11 +8,5 @@ use Rattle.linear_discriminant.proofs.scatter.add_kept.Given as goal
 abbrev pub invariant-loop-p : goal.invariant-loop-p
 invariant-loop-p l = Walk (λ p'. pair_added 12 l.kept l.m (2 * p')) 0 l.p 5 l.initial.table l.table
 
-abbrev pub decreases-loop-p : goal.decreases-loop-p
-decreases-loop-p l = 5 - l.p
-
 abbrev pub invariant-loop-p-2 : goal.invariant-loop-p-2
 invariant-loop-p-2 l = Walk (λ p'. pair_added 10 l.kept l.m (2 * p')) 5 l.p 10 l.initial.table l.table
-
-abbrev pub decreases-loop-p-2 : goal.decreases-loop-p-2
-decreases-loop-p-2 l = 10 - l.p

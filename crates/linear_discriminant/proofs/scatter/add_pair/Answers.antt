@@ -1,19 +1,10 @@
 -- `linear_discriminant::scatter::add_pair` meets its contract: two rows are read, the kept rows are added to them one
 -- by one, entry by entry, and the two are written back.
-use mathlib.Core.Path.{refl}
 use Prim.Native.Nat.{◌+◌}
 use borrow.Author.Rules.{rules}
-use Rattle.folds.proofs.Writing.{writing_start, writing_step, writing_done, rewriting_start, rewriting_step, rewriting_done}
+use Rattle.folds.proofs.Writing.{writing_done, rewriting_start, rewriting_step, rewriting_done}
 use Rattle.linear_discriminant.proofs.Accumulated.{length_accumulated, accumulated_none, accumulated_more, pair_done}
 use Rattle.linear_discriminant.proofs.scatter.add_pair.Goals as goal
-
-pub loop-d-init : goal.loop-d-init
-loop-d-init c = (writing_start refl, writing_start refl)
-
-pub loop-d-preserved : goal.loop-d-preserved
-loop-d-preserved c =
-    let w = c.loop-d.invariant in
-    (writing_step w.0 (search rules) refl, writing_step w.1 (search rules) refl)
 
 pub loop-g-init : goal.loop-g-init
 loop-g-init c =

@@ -1,6 +1,6 @@
 -- `linear_discriminant::scatter::centred` meets its contract: a column written from the front, twice over its first
 -- eight numbers.
-use Prim.Native.Nat.{◌-◌, ◌≤◌}
+use Prim.Native.Nat.{◌≤◌}
 use lib.Ieee.{nan}
 use Rattle.folds.proofs.Writing.{Writing}
 use Rattle.linear_discriminant.specs.Inner.Passes.{centred_at}
@@ -9,11 +9,5 @@ use Rattle.linear_discriminant.proofs.scatter.centred.Given as goal
 abbrev pub invariant-loop-j : goal.invariant-loop-j
 invariant-loop-j l = Writing (centred_at l.features l.mean l.i) nan 28 l.row l.j × (l.j ≤ 20)
 
-abbrev pub decreases-loop-j : goal.decreases-loop-j
-decreases-loop-j l = 20 - l.j
-
 abbrev pub invariant-loop-j-2 : goal.invariant-loop-j-2
 invariant-loop-j-2 l = Writing (centred_at l.features l.mean l.i) nan 28 l.row l.j × (20 ≤ l.j)
-
-abbrev pub decreases-loop-j-2 : goal.decreases-loop-j-2
-decreases-loop-j-2 l = 28 - l.j

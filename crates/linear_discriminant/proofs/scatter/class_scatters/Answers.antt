@@ -1,7 +1,6 @@
 -- `linear_discriminant::scatter::class_scatters` meets its contract. The invariant: of each class, the table and the
--- kept rows together hold the rows passed (`Gathered`); the measure is what is left of the rows.
+-- kept rows together hold the rows passed (`Gathered`).
 use mathlib.Core.Path.{refl}
-use native.Mathlib.Omega.{arith}
 use lib.IntN.{pos}
 use lib.ListN.{get_or}
 use borrow.Author.Rules.{rules}
@@ -15,20 +14,14 @@ use Rattle.linear_discriminant.proofs.scatter.class_scatters.Goals as goal
 pub loop-i-init : goal.loop-i-init
 loop-i-init c =
     let a = c.args in
-    gathered_start (empty a.features.now a.labels.now (row a.means.now 0) 0) (empty a.features.now a.labels.now (row a.means.now 1) 1) refl refl
-
-pub offset_bounds-kept-m : goal.offset_bounds-kept-m
-offset_bounds-kept-m c = let h = (c.loop-i.invariant.each_class c.class_of-c.result (search rules)).few in search rules
-
-pub bounds-kept-m : goal.bounds-kept-m
-bounds-kept-m c = let h = (c.loop-i.invariant.each_class c.class_of-c.result (search rules)).few in search rules
+    gathered_start (empty a.rows.now.features.now a.rows.now.labels.now (row a.means.now 0) 0) (empty a.rows.now.features.now a.rows.now.labels.now (row a.means.now 1) 1) refl refl
 
 pub loop-i-preserved-then-m-lt15 : goal.loop-i-preserved-then-m-lt15
 loop-i-preserved-then-m-lt15 c =
     let a = c.args in
     let w = c.loop-i in
     gathered_keep w.invariant (search rules) (search rules)
-    (class_given (get_or a.labels.now w.i (pos 0)) c.class_of-arg-1.given c.class_of-c.ensures)
+    (class_given (get_or a.rows.now.labels.now w.i (pos 0)) c.class_of-arg-1.given c.class_of-c.ensures)
     c.centred.ensures (search rules)
 
 pub loop-i-preserved : goal.loop-i-preserved
@@ -37,18 +30,12 @@ loop-i-preserved c =
     let w = c.loop-i in
     let k = c.class_of-c.result in
     gathered_add w.invariant (search rules) (search rules)
-    (class_given (get_or a.labels.now w.i (pos 0)) c.class_of-arg-1.given c.class_of-c.ensures)
-    c.centred.ensures (adds a.features.now a.labels.now (row a.means.now k) k) (search rules) c.add_kept.ensures
-
-pub add_kept-requires-2 : goal.add_kept-requires-2
-add_kept-requires-2 c = let h = (c.loop-i.invariant.each_class 0 (omega arith)).few in search rules
-
-pub add_kept-requires-3 : goal.add_kept-requires-3
-add_kept-requires-3 c = let h = (c.loop-i.invariant.each_class 1 (omega arith)).few in search rules
+    (class_given (get_or a.rows.now.labels.now w.i (pos 0)) c.class_of-arg-1.given c.class_of-c.ensures)
+    c.centred.ensures (adds a.rows.now.features.now a.rows.now.labels.now (row a.means.now k) k) (search rules) c.add_kept.ensures
 
 pub returns : goal.returns
 unfolding half_tables
 returns c =
     let a = c.args in
-    gathered_end c.loop-i.invariant (search rules) (λ k. adds a.features.now a.labels.now (row a.means.now k) k)
+    gathered_end c.loop-i.invariant (search rules) (λ k. adds a.rows.now.features.now a.rows.now.labels.now (row a.means.now k) k)
     c.add_kept-2.ensures c.add_kept-3.ensures

@@ -1,6 +1,5 @@
 -- `linear_discriminant::scores::narrow_block` meets its contract: a walk that writes one place a turn.
 use mathlib.Core.Path.{◌≡◌}
-use Prim.Native.Nat.{◌-◌}
 use lib.ListN.{length, set}
 use Rattle.folds.proofs.Walks.{Walk}
 use Rattle.linear_discriminant.specs.Inner.Blocks.{narrowed_score}
@@ -11,6 +10,3 @@ invariant-loop-i l =
     (length l.narrowed ≡ length l.initial.narrowed)
     × Walk (λ i' column. set column i' (narrowed_score l.scores i')) l.from l.i l.to l.initial.narrowed
     l.narrowed
-
-abbrev pub decreases-loop-i : goal.decreases-loop-i
-decreases-loop-i l = l.to - l.i

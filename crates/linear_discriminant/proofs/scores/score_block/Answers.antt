@@ -3,16 +3,10 @@
 use mathlib.Core.Path.{ap}
 use lib.ListN.{set}
 use borrow.Author.Rules.{rules}
-use Rattle.folds.proofs.Walks.{start, step, step_by, done}
+use Rattle.folds.proofs.Walks.{step, step_by, done}
 use Rattle.linear_discriminant.specs.Rows.{scored}
 use Rattle.linear_discriminant.specs.Inner.Blocks.{written}
 use Rattle.linear_discriminant.proofs.scores.score_block.Goals as goal
-
-pub loop-i-init : goal.loop-i-init
-loop-i-init c = (search rules, start (search rules))
-
-pub loop-j-init : goal.loop-j-init
-loop-j-init c = start (search rules)
 
 pub loop-j-preserved : goal.loop-j-preserved
 loop-j-preserved c = step c.loop-j.invariant (search rules)

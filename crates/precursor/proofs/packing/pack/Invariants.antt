@@ -1,12 +1,6 @@
--- `precursor::packing::pack` meets its contract: each place of the column gets the key of its row (`Writing`).
-use Prim.Native.Nat.{◌-◌}
-use lib.ListN.{length}
-use Rattle.folds.proofs.Writing.{Writing}
-use Rattle.ranking.specs.Inner.Rows.{row_key}
+-- `precursor::packing::pack` meets its contract: each place of the column gets the key of its row (`Keyed`).
+use Rattle.precursor.specs.Inner.Keyed.{Keyed}
 use Rattle.precursor.proofs.packing.pack.Given as goal
 
 abbrev pub invariant-loop-i : goal.invariant-loop-i
-invariant-loop-i l = Writing (row_key l.labels l.scores) 0 (length l.scores) l.keys l.i
-
-abbrev pub decreases-loop-i : goal.decreases-loop-i
-decreases-loop-i l = length l.scores - l.i
+invariant-loop-i g l = Keyed (goal.F-post g l.decoy_at) l.scores l.keys l.i

@@ -1,6 +1,5 @@
 -- `precursor::passes::write_order` meets its contract: each place of the column gets the place of its key (`Writing`).
 use mathlib.Core.List.{map}
-use Prim.Native.Nat.{◌-◌}
 use lib.ListN.{length, get_or}
 use Rattle.folds.proofs.Writing.{Writing}
 use Rattle.ranking.specs.Inner.Layout.{place_of}
@@ -8,6 +7,3 @@ use Rattle.precursor.proofs.passes.write_order.Given as goal
 
 abbrev pub invariant-loop-i : goal.invariant-loop-i
 invariant-loop-i l = Writing (λ k. get_or (map place_of l.keys) k 0) 0 (length l.keys) l.order l.i
-
-abbrev pub decreases-loop-i : goal.decreases-loop-i
-decreases-loop-i l = length l.keys - l.i

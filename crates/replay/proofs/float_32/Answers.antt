@@ -1,7 +1,0 @@
--- The bits of no NaN reach the last line.
-use Rattle.std.proofs.Common.{rules}
-use Rattle.std.proofs.lemmas.Float.{not_nan_f32_bits}
-use Rattle.replay.proofs.float_32.Goals as goal
-
-pub float_from_bits-result : goal.float_from_bits-result
-float_from_bits-result c = not_nan_f32_bits _ (search rules)
