@@ -93,7 +93,7 @@ fn make_and_check(
 
 // Q-values of precursors at their places, the row at each rank, and the line check's answer at one in 20 for the line
 // after the last ranked row that passes: Right with its counts, or why the list is refused. `keys`, `spare` and
-// `ranked` are working columns.
+// `ranked` are working columns, three as the C interface has them.
 pub fn checked_precursors(
     labels: &[i32],
     scores: &[f64],

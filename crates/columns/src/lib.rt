@@ -49,7 +49,8 @@ pub fn answer_number<T: Copy>(answer: &Result<T, Refusal>) -> u32
     }
 }
 
-// The longest list that question 1 lets pass: 2^24 - 1 rows, so that each count is exact as an f32.
+// The longest list that question 1 lets pass: 2^24 - 1 rows, so that each count is exact as an f32. Functions that
+// count require it of their column: a struct for such a list, tried in `qvalue`, made contracts and proofs longer.
 pub const LONGEST: usize = 16_777_215;
 
 // What a refusal leaves in every place of a result column: "NaN (floats) or 4,294,967,295 (32-bit whole numbers)".

@@ -7,9 +7,12 @@ use Prim.Native.Nat.{ℕ, zero, suc, ◌+◌, ◌-◌, ◌<◌, min}
 use native.Mathlib.Nat.{not-suc-le-zero, le_of_suc-le-suc}
 use native.Mathlib.Numerals.{add-one}
 use native.Mathlib.Omega.{arith}
+use borrow.Author.Tests.{le-leb, ne_eqb}
 use lib.IntN.{ℤ, pos, negsuc}
 use lib.ListN.{length, take, get_or, length-take}
 use lib.Seq.{get_or-set_other}
+use Rattle.std.specs.Ordering.{int_eq}
+use Rattle.folds.specs.Lists.{how_many}
 use Rattle.counting.specs.Labels.{is_decoy, decoys, targets, flip, flip_row}
 
 decoys_suc : (labels : List ℤ) (i : ℕ) (d : ℤ) → i < length labels
@@ -103,3 +106,18 @@ pub flip_row_others : (row : ℕ) (labels : List ℤ) (i : ℕ) (d : ℤ) → (i
     → get_or (flip_row row labels) i d ≡ get_or labels i d
 unfolding flip_row
 flip_row_others row labels i d p = get_or-set_other labels (row - 1) i (flip (get_or labels (row - 1) (pos 0))) d p
+
+-- a label is a decoy where it is −1
+is_minus_one : (l : ℤ) → int_eq l (negsuc 0) ≡ is_decoy l
+is_minus_one (pos n) = refl
+is_minus_one (negsuc zero) = refl
+is_minus_one (negsuc (suc n)) = rw (le-leb 1 (suc n) (omega arith), ne_eqb (suc n) 0 (λ e. omega arith))
+
+pub decoys_are : (labels : List ℤ) → how_many (λ (l : ℤ). int_eq l (negsuc 0)) labels ≡ decoys labels
+unfolding how_many decoys
+decoys_are [] = refl
+decoys_are (l ∷ ls) = rw (is_minus_one l, decoys_are ls) (go (is_decoy l) (decoys ls))
+  where
+    go : (b : Bool) (n : ℕ) → cond b 1 0 + n ≡ cond b (suc n) n
+    go true n = omega arith
+    go false n = omega arith

@@ -64,32 +64,6 @@ tally_both {labels} {i} t =
 pub mark_small : (labels : List ℤ) (i : ℕ) → mark labels i ≤ 1
 mark_small labels i = byte_most (eqb (of_z w32 (get_or labels i (pos 0))) 4294967295)
 
--- ---- the decoys so far, alone
-
-pub record Decoys (labels : List ℤ) (i count : ℕ) : Type 0 where
-  pub high : i ≤ length labels
-  pub is : count ≡ decoys (take i labels)
-
-pub decoys_start : (labels : List ℤ) → Decoys labels 0 0
-unfolding decoys
-decoys_start labels = record { high = zero-le; is = refl }
-
-module _ {labels : List ℤ} {i count : ℕ} (w : Decoys labels i count) where
-  pub decoys_step : i < length labels → mag (get_or labels i (pos 0)) < 2 ^ 31
-      → Decoys labels (i + 1) (count + mark labels i)
-  decoys_step h f = rw (label_test (get_or labels i (pos 0)) f) (go (is_decoy (get_or labels i (pos 0))) (decoys_next labels i (pos 0) h))
-    where
-      go : (b : Bool) → decoys (take (i + 1) labels) ≡ decoys (take i labels) + cond b 1 0
-          → Decoys labels (i + 1) (count + bool_byte b)
-      go true e = let is = w.is in record { high = omega arith; is = omega arith }
-      go false e = let is = w.is in record { high = omega arith; is = omega arith }
-
-  pub decoys_fit : i < length labels → length labels < 2 ^ 64 → count + mark labels i < 2 ^ 64
-  decoys_fit h k =
-      let is = w.is in
-      let high = w.high in
-      omega (arith, row_counts i labels, mark_small labels i)
-
 module _ {labels : List ℤ} {i decoy target : ℕ} (t : Tally labels i decoy target) (h : i < length labels) where
   pub next_decoy : decoy + mark labels i ≤ length labels + 1
   next_decoy = omega (arith, tally_both t, mark_small labels i)

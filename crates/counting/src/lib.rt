@@ -3,15 +3,23 @@
 #![tactic(auto)]
 
 ghost use Rattle.std.specs.Prelude.{◌≡◌};
+ghost use Rattle.folds.specs.Lists.{how_many};
 ghost use Rattle.counting.specs.Labels.{decoys};
+
+// How many places of a column hold this value.
+pub fn how_many<T: PartialEq + Copy>(column: &[T], wanted: T) -> usize
+    ensures { result ≡ how_many (λ x. T.eq x wanted) column.now }
+{
+    let mut count = 0;
+    for x in column {
+        count += usize::from(*x == wanted);
+    }
+    count
+}
 
 // How many labels are decoys.
 pub fn count_decoys(labels: &[i32]) -> usize
     ensures { result ≡ decoys labels.now }
 {
-    let mut decoys = 0;
-    for label in labels {
-        decoys += usize::from(*label == -1);
-    }
-    decoys
+    how_many(labels, -1)
 }

@@ -94,7 +94,7 @@ fn assigned(
 
 // Q-values of feature rows by their slots' names, and how many targets among the ranked rows have one of at most 0.01.
 // `keys` and `spare`, two entries per slot, are C's working columns, since the library takes no memory; they hold 0
-// afterwards.
+// afterwards. `slots` and `labels` are no struct: clauses would say `rows.now.slots`, and be no plainer.
 pub fn assign_q_value(
     settings: Settings,
     bins: &[f64],

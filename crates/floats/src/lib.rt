@@ -186,7 +186,7 @@ fn nearest_f32(size: f64) -> f64
 {
     // from 2^128 - 2^103 on the nearest is an infinity
     if size >= 3.4028235677973366e38 {
-        return 1.0 / 0.0;
+        return f64::INFINITY;
     }
     let exponent = f64::to_bits(size) / 0x10_0000_0000_0000;
     let power = max(
@@ -200,8 +200,8 @@ fn nearest_f32(size: f64) -> f64
 pub fn narrow(x: f64) -> f32
     ensures { result ≡ converted binary32 x }
 {
-    if x != x {
-        return 0.0 / 0.0;
+    if x.is_nan() {
+        return f32::NAN;
     }
     let bits = f64::to_bits(x);
     let unsigned = bits % 0x8000_0000_0000_0000;

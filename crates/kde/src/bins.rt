@@ -1,7 +1,7 @@
 // Builder::build in two steps: the scores of the bins, at which the host takes its two densities, and the bins.
-ghost use Rattle.std.specs.Prelude.{◌≡◌, ◌≤◌, eqb, length};
+ghost use Rattle.std.specs.Prelude.{◌≡◌, ◌≤◌, length};
 ghost use Rattle.std.specs.Float.{nan};
-ghost use Rattle.folds.specs.Lists.{filled, tabulated, how_many};
+ghost use Rattle.folds.specs.Lists.{filled, tabulated};
 ghost use Rattle.columns.specs.Refusals.{answered};
 ghost use Rattle.kde.specs.Bins.{least_score, greatest_score, bin_score};
 ghost use Rattle.kde.specs.Bins.{bin_scores_run, bin_scores_of};
@@ -65,17 +65,6 @@ pub fn bin_scores(
     };
     write_bin_scores(estimator, bin_scores);
     Ok(estimator)
-}
-
-// How many flags are the wanted one; they are numbers, since C has them so.
-fn count_flags(flags: &[u32], wanted: u32) -> usize
-    ensures { result ≡ how_many (λ n. eqb n wanted) flags.now }
-{
-    let mut count: usize = 0;
-    for flag in flags {
-        count += (*flag == wanted) as usize;
-    }
-    count
 }
 
 // decoy / (target + decoy) in every bin. The two densities stay two columns, as C has them: a struct would be made in
@@ -166,7 +155,7 @@ pub fn posterior_bins(
 }
 
 // Step two over a competition's slots: 1 is a decoy, 0 a target, and a slot that holds neither, as an unseen one does,
-// takes no part.
+// takes no part. The flags are numbers, since C has them so.
 pub fn slot_posterior_bins(
     builder: Builder,
     is_decoy: &[u32],
@@ -181,8 +170,8 @@ pub fn slot_posterior_bins(
 {
     let listed = is_decoy.len();
     ask_bins(builder.bins, listed, decoy_density, target_density, bins)?;
-    let decoys = count_flags(is_decoy, 1);
-    let total = decoys + count_flags(is_decoy, 0);
+    let decoys = counting::how_many(is_decoy, 1);
+    let total = decoys + counting::how_many(is_decoy, 0);
     build_bins(builder, decoys, total, decoy_density, target_density, bins);
     Ok(())
 }

@@ -41,31 +41,33 @@ pub struct LineNumbers {
     pub targets: usize,
 }
 
-pub fn line_numbers(answer: Result<Line, Refusal>) -> LineNumbers
-    ensures { result ≡ numbers_of answer }
-{
-    match answer {
-        Ok(Line::Right(c)) => LineNumbers {
-            number: 0,
-            right: 1,
-            row: c.row,
-            decoys_plus_one: c.decoys_plus_one,
-            targets: c.targets,
-        },
-        Ok(Line::Wrong(c)) => LineNumbers {
-            number: 0,
-            right: 0,
-            row: c.row,
-            decoys_plus_one: c.decoys_plus_one,
-            targets: c.targets,
-        },
-        Err(refusal) => LineNumbers {
-            number: u32::from(refusal),
-            right: 0,
-            row: 0,
-            decoys_plus_one: 0,
-            targets: 0,
-        },
+impl From<Result<Line, Refusal>> for LineNumbers {
+    ghost from_gives = { λ answer numbers. numbers ≡ numbers_of answer };
+
+    fn from(answer: Result<Line, Refusal>) -> LineNumbers {
+        match answer {
+            Ok(Line::Right(c)) => LineNumbers {
+                number: 0,
+                right: 1,
+                row: c.row,
+                decoys_plus_one: c.decoys_plus_one,
+                targets: c.targets,
+            },
+            Ok(Line::Wrong(c)) => LineNumbers {
+                number: 0,
+                right: 0,
+                row: c.row,
+                decoys_plus_one: c.decoys_plus_one,
+                targets: c.targets,
+            },
+            Err(refusal) => LineNumbers {
+                number: u32::from(refusal),
+                right: 0,
+                row: 0,
+                decoys_plus_one: 0,
+                targets: 0,
+            },
+        }
     }
 }
 

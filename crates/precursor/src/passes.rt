@@ -1,4 +1,4 @@
-// Passes over the ranked keys.
+// Passes over the ranked keys. The bound on their number is a `requires` and no struct's: see `columns::LONGEST`.
 ghost use Rattle.std.specs.Prelude.{◌≡◌, map, ◌≤◌, ◌<◌, length};
 ghost use Rattle.folds.specs.Inner.All.{All};
 ghost use Rattle.columns.specs.Refusals.{longest};

@@ -13,7 +13,7 @@ ghost use Rattle.qvalue.specs.Spectrum.{spectrum_run, spectrum_q_value};
 
 use columns::Refusal;
 
-// Decoys plus one, over targets, at each row.
+// Decoys plus one, over targets, at each row. The bound is a `requires` and no struct's: see `columns::LONGEST`.
 fn write_ratios(labels: &[i32], q: &mut [f32])
     requires q_len { length q.old ≡ length labels.now }
     requires labels_len_bound { length labels.now ≤ longest }

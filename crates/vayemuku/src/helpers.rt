@@ -1,4 +1,4 @@
-// Module 1, float helpers.
+// Module 1, float helpers: two exports for each that has a width, since C has no generic functions.
 ghost use Rattle.std.specs.Prelude.{◌≡◌};
 ghost use Rattle.std.specs.Float.{binary32, binary64};
 ghost use Rattle.std.specs.Float.Ieee.{to_unsigned};

@@ -6,7 +6,7 @@ ghost use Rattle.qvalue.specs.Spectrum.{spectrum_q_value};
 ghost use Rattle.agreement.specs.Checked.{right_at, checked_precursors};
 
 use columns::Refusal;
-use line_check::{Line, Rate};
+use line_check::{Line, LineNumbers, Rate};
 
 // A line's answer as C gets it: `right` gets 1 or 0, and the others the three counts.
 fn hand_over(
@@ -20,7 +20,7 @@ fn hand_over(
         result and right.new and row.new and decoys_plus_one.new and targets.new
         ≡ answer.number and answer.right and answer.row and answer.decoys_plus_one and answer.targets }
 {
-    let numbers = line_check::line_numbers(answer);
+    let numbers = LineNumbers::from(answer);
     *right = numbers.right;
     *row = numbers.row;
     *decoys_plus_one = numbers.decoys_plus_one;

@@ -1,25 +1,30 @@
 -- `floats::narrow` meets its contract: the bits below the sign are the magnitude's, what `nearest_f32` makes of it is
 -- the magnitude converted, and the sign's bit on top makes that the argument converted.
-use Rattle.std.proofs.Common.{◌≡◌, ℕ, ◌+◌, ◌-◌, ◌%◌, ◌<◌, Bool, true, false, cond, not, ◌&&◌, T, sym, ap, ◌∙◌, subst, arith, lit<}
-use lib.Ieee.{Float, binary32, binary64, neg, div, of_bits, to_bits, fits, is_nan}
+use Rattle.std.proofs.Common.{◌≡◌, ℕ, ◌+◌, ◌-◌, ◌%◌, ◌<◌, Bool, true, false, true≢false, refl, cond, not, ◌&&◌, T, sym, ap, ◌∙◌, subst, arith, lit<}
+use lib.Ieee.{Float, nan, inf, fin, binary32, binary64, neg, of_bits, to_bits, fits, is_nan}
 use lib.Ieee.Fits.{and_i, neg-fits, cond-fits, fits_widens}
 use lib.Ieee.Bits.{nan_bits_is, of_bits-to_bits}
 use Rattle.floats.specs.Convert.{converted}
 use Rattle.floats.specs.Signs.{negative}
-use lib.Ieee.Compare.{differs_from_itself}
 use denote.Floats.{passes}
-use Rattle.floats.proofs.MinMax.{not_nan}
 use Rattle.floats.proofs.Signs.{absolute, absolute_number, absolute_plus, converted_sign}
 use Rattle.floats.proofs.Fields.{sign_off, sign_part, sign_on, magnitude_bits}
 use Rattle.floats.proofs.Narrowed.{resigned, converted_fits, converted_not_nan}
 use Rattle.floats.proofs.narrow.Goals as goal
-use Rattle.floats.proofs.narrow.Goals.{After-nearest_f32-nearest, Else-x}
+use Rattle.floats.proofs.narrow.Goals.{After-nearest_f32-nearest, Else-is_nan}
 
-number : (c : Else-x) → T (not (is_nan c.args.x))
-number c = not_nan c.args.x c.if-x.false
+number : (c : Else-is_nan) → T (not (is_nan c.args.x))
+number c = rw (← c.is_nan.ensures.value, c.if-is_nan.false) tt
+
+-- a NaN is the NaN
+nan_only : (x : Float) → is_nan x ≡ true → x ≡ nan
+unfolding is_nan
+nan_only nan e = refl
+nan_only (inf s) e = absurd (true≢false (sym e))
+nan_only (fin s m d) e = absurd (true≢false (sym e))
 
 -- what is passed on is the magnitude
-passed : (c : Else-x)
+passed : (c : Else-is_nan)
     → of_bits binary64 (to_bits binary64 c.args.x % 9223372036854775808) ≡ absolute c.args.x
 passed c = sign_off c.args.x (passes _ c.well_formed.0.1)
 
@@ -57,9 +62,9 @@ module _ (c : After-nearest_f32-nearest) where
 converted_number : (c : After-nearest_f32-nearest) → T (not (is_nan (converted binary32 c.args.x)))
 converted_number c = converted_not_nan binary32 c.args.x (number c.before)
 
-pub returns-then-x : goal.returns-then-x
-unfolding div of_bits converted
-returns-then-x c = sym (ap (converted binary32) (differs_from_itself c.args.x (passes _ c.if-x.true)))
+pub returns-then-is_nan : goal.returns-then-is_nan
+unfolding of_bits converted
+returns-then-is_nan c = sym (ap (converted binary32) (nan_only c.args.x (sym c.is_nan.ensures.value ∙ c.if-is_nan.true)))
 
 pub float_to_bits-bits : goal.float_to_bits-bits
 float_to_bits-bits c = number c

@@ -31,15 +31,15 @@ overflow_add-total c =
 pub build_bins-requires : goal.build_bins-requires
 build_bins-requires c =
     let flags = c.args.is_decoy.now in
-    let decoys = c.count_flags-decoys.result in
-    let total = decoys + c.count_flags.result in
+    let decoys = c.how_many-decoys.result in
+    let total = decoys + c.how_many.result in
     let some : decoys ≤ total = omega arith in
-    let few : total ≤ length flags = omega (arith, c.count_flags-decoys.ensures, c.count_flags.ensures, slots_le flags) in
+    let few : total ≤ length flags = omega (arith, c.how_many-decoys.ensures, c.how_many.ensures, slots_le flags) in
     let e = c.in_ok-ask_bins.was in
     rw (kept _ _ c.ask_bins.ensures.column e) (bins_passed _ _ _ _ _ _ _ (sym c.ask_bins.ensures.answer ∙ e) some few)
 
 pub returns : goal.returns
 unfolding slot_bins built_bins
 returns c =
-    rw (c.build_bins.ensures, c.count_flags-decoys.ensures, c.count_flags.ensures)
+    rw (c.build_bins.ensures, c.how_many-decoys.ensures, c.how_many.ensures)
     (sym (if_accepted _ _ (sym c.ask_bins.ensures.answer ∙ c.in_ok-ask_bins.was)))
