@@ -19,7 +19,7 @@ use Rattle.folds.proofs.Writing.{tabulated_at, map_at, all_at}
 use Rattle.std.specs.Prelude.{Result, Ok, Err}
 use Rattle.columns.specs.declared.Refusal.{Refusal}
 use Rattle.columns.specs.Refusals.{Asked, longest, RankedRun, ranked_run}
-use Rattle.columns.proofs.Questions.{refused_not_accepted, refused_not_accepted, if_accepted, was_accepted}
+use Rattle.columns.proofs.Questions.{refused_not_accepted, if_accepted, was_accepted}
 use Rattle.floats.specs.Ratio.{one_in}
 use Rattle.floats.proofs.Ratio.{sharp_100, sharp_20}
 use Rattle.counting.specs.Labels.{is_decoy, targets}

@@ -40,15 +40,9 @@ fn ask(
     ensures { result ≡ checked_asked labels scores keys spare ranked order q }
 {
     let short = (labels <= columns::LONGEST) & (scores <= columns::LONGEST);
-    if !short {
-        return Err(Refusal::TooLong);
-    }
     let working = (keys == labels) & ((spare == labels) & (ranked == labels));
-    let one_per_row = (scores == labels) & (working & ((order == labels) & (q == labels)));
-    if !one_per_row {
-        return Err(Refusal::WrongLength);
-    }
-    Ok(())
+    let fits = (scores == labels) & (working & ((order == labels) & (q == labels)));
+    columns::ask_lengths(short, fits)
 }
 
 // The labels in ranked order, and how many rows have a q-value of at most 0.05.
@@ -107,7 +101,7 @@ pub fn checked_precursors(
         let run = checked_precursors labels.now scores.now keys.old in
         after q.new ≡ run spare.old ranked.old order.old q.old }
 {
-    match ask(
+    if let Err(refusal) = ask(
         labels.len(),
         scores.len(),
         keys.len(),
@@ -116,13 +110,11 @@ pub fn checked_precursors(
         order.len(),
         q.len(),
     ) {
-        Err(refusal) => {
-            columns::clear(keys, spare);
-            ranked.fill(0);
-            columns::blank(order);
-            columns::blank(q);
-            Err(refusal)
-        }
-        Ok(()) => make_and_check(labels, scores, keys, spare, ranked, order, q),
+        columns::clear(keys, spare);
+        ranked.fill(0);
+        columns::blank(order);
+        columns::blank(q);
+        return Err(refusal);
     }
+    make_and_check(labels, scores, keys, spare, ranked, order, q)
 }

@@ -44,11 +44,15 @@ asked_lengths rows column e =
     let even = met (eqb column rows) WrongLength _ short.1 in
     (eqb-true _ _ even.0, leb→le rows longest (rw short.0 tt))
 
--- what `?` gives back where a question is not met: the refusal
-pub given_back : {A : Type 0} {o answer asked : Asked} {r : Refusal} (result : Result A Refusal) → asked ≡ o
-    → answer ≡ asked → answer ≡ Err r → IsErrAnd result (λ s. s ≡ r)
-    → (o ≡ Err r) × (result ≡ Err r)
-given_back result e k l w = let p = err_from_is_err_and result w in (sym e ∙ sym k ∙ l, rw p.2 at p.1)
+-- what a call answers and leaves where `?` gives back a question's refusal: the refusal, and a blank column
+pub refused_run : {A B C : Type 0} (run : Result A Refusal → B → C) (accepted : C) (before blank : B)
+    {o answer asked : Asked} {r : Refusal} {result : Result A Refusal} {after : B}
+    → asked ≡ o → answer ≡ asked → answer ≡ Err r → IsErrAnd result (λ s. s ≡ r)
+    → after ≡ answered asked before (λ s. blank)
+    → run result after ≡ answered o accepted (λ s. run (Err s) blank)
+refused_run run accepted before blank {result = result} e k l w m =
+    let p = err_from_is_err_and result w in
+    rw (rw p.2 at p.1, m, e, sym e ∙ sym k ∙ l)
 
 -- where all are met, the column stands as it was
 pub kept : {A : Type 0} {o : Asked} {column : A} (before blank : A) → column ≡ answered o before (λ r. blank)

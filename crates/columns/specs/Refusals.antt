@@ -48,9 +48,13 @@ longest = 16777215
 abbrev pub if_not : Bool → Refusal → Asked → Asked
 if_not met refusal rest = cond met rest (Err refusal)
 
--- questions 1 and 2, of a list's rows and the entries of a column beside it
+-- questions 1 and 2: of lists that are short or not, and of columns that fit them or not
+abbrev pub lengths_asked : Bool → Bool → Asked
+lengths_asked short fits = if_not short TooLong (if_not fits WrongLength (Ok tt))
+
+-- the same of a list's rows and the entries of a column beside it
 abbrev pub asked : ℕ → ℕ → Asked
-asked rows column = if_not (leb rows longest) TooLong (if_not (eqb column rows) WrongLength (Ok tt))
+asked rows column = lengths_asked (leb rows longest) (eqb column rows)
 
 -- what a call answers and leaves: what it works out where every question is met, and otherwise what a refusal leaves
 abbrev pub answered : {A : Type 0} → Asked → A → (Refusal → A) → A

@@ -4,9 +4,10 @@
 ghost use Rattle.std.specs.Prelude.{◌≡◌, Result};
 ghost use Rattle.std.specs.Float.{nan};
 ghost use Rattle.folds.specs.Lists.{filled};
-ghost use Rattle.columns.specs.Refusals.{number_of, answer_number, asked, answered};
+ghost use Rattle.columns.specs.Refusals.{number_of, answer_number, lengths_asked, asked, answered};
 
-// Why a call refuses, in the order of the questions.
+// Why a call refuses, in the order of the questions. It prints nothing: C gets its number, and the host has a sentence
+// for each.
 #[derive(Clone, Copy, Debug, PartialEq, Eq, Hash)]
 pub enum Refusal {
     TooLong,
@@ -101,17 +102,24 @@ pub fn blank<T: HasBlank>(column: &mut [T])
     column.fill(T::blank());
 }
 
-// Questions 1 and 2, of a list and of a column with an entry for each of its rows.
-pub fn ask(rows: usize, column: usize) -> Result<(), Refusal>
-    ensures { result ≡ asked rows column }
+// Questions 1 and 2: are the lists short, and do the columns fit them?
+pub fn ask_lengths(short: bool, fits: bool) -> Result<(), Refusal>
+    ensures { result ≡ lengths_asked short fits }
 {
-    if LONGEST < rows {
+    if !short {
         return Err(Refusal::TooLong);
     }
-    if column != rows {
+    if !fits {
         return Err(Refusal::WrongLength);
     }
     Ok(())
+}
+
+// The same of a list and of a column with an entry for each of its rows.
+pub fn ask(rows: usize, column: usize) -> Result<(), Refusal>
+    ensures { result ≡ asked rows column }
+{
+    ask_lengths(rows <= LONGEST, column == rows)
 }
 
 // What the questions say; a refusal leaves the blank in every place of the column.

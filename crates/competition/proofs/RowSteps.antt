@@ -5,21 +5,42 @@ use mathlib.Core.Bool.{Bool, true, false, cond}
 use Prim.Native.Nat.{ℕ, suc, ◌+◌, ◌≤◌, ◌<◌, ◌^◌}
 use native.Mathlib.Numerals.{add-one}
 use native.Mathlib.Omega.{arith}
+use borrow.Author.Tests.{eq-eqb, ne_eqb}
 use lib.Dec.{eqb}
 use lib.IntN.{ℤ, pos}
 use lib.Signed.{mag}
-use lib.ListN.{length, drop, get_or, length-set, drop_of_length-le}
+use lib.ListN.{length, drop, get_or, set, length-set, drop_of_length-le}
 use lib.Seq.{drop-cons}
 use lib.Ieee.{Float, nan}
 use mir.Syntax.{w32}
-use mir.Val.{of_z, to_z}
+use mir.Val.{SFits, of_z, to_z}
 use mir.ValLaws.{to_z-of_z}
 use Rattle.folds.proofs.Tests.{both_true}
+use Rattle.floats.specs.MinMax.{max_number}
 use Rattle.counting.specs.Labels.{is_decoy}
+use Rattle.counting.proofs.Tally.{label_test}
+use Rattle.competition.specs.declared.Competition.{Competition}
 use Rattle.competition.specs.Tables.{Table, table_of}
 use Rattle.competition.specs.Batches.{Batch, no_part, raise_forward, raise_reverse, with_row, added, allowed, all_allowed}
 use Rattle.competition.specs.Inner.Ready.{RowReady, BatchReady}
 use Rattle.competition.proofs.Questions.{slot_in_bounds}
+
+-- ---- a decoy's row raises the reverse side, and a target's the forward one
+
+module _ (slot : ℕ) (label : ℤ) (score : Float) (t : Table) (e : slot ≡ no_part → ⊥) (fits : SFits w32 label) where
+  pub decoy_row : of_z w32 label ≡ 4294967295 → {entry : Competition}
+      → entry
+      ≡ record { forward = get_or t.forward slot nan; reverse = max_number (get_or t.reverse slot nan) score }
+      → table_of t.forward (set t.reverse slot entry.reverse) t.forward_seen (set t.reverse_seen slot 1)
+      ≡ with_row slot label score t
+  decoy_row d r = rw (ne_eqb slot no_part e, sym (label_test label fits.sfits) ∙ eq-eqb (of_z w32 label) 4294967295 d, r)
+
+  pub target_row : (of_z w32 label ≡ 4294967295 → ⊥) → {entry : Competition}
+      → entry
+      ≡ record { forward = max_number (get_or t.forward slot nan) score; reverse = get_or t.reverse slot nan }
+      → table_of (set t.forward slot entry.forward) t.reverse (set t.forward_seen slot 1) t.reverse_seen
+      ≡ with_row slot label score t
+  target_row d r = rw (ne_eqb slot no_part e, sym (label_test label fits.sfits) ∙ ne_eqb (of_z w32 label) 4294967295 d, r)
 
 -- ---- no column gets longer or shorter
 

@@ -6,7 +6,7 @@ use mathlib.Core.Bool.{Bool, true, false, not, cond}
 use Prim.Native.Nat.{ℕ, ◌+◌, ◌≤◌, ◌<◌}
 use lib.ListN.{length, get_or, set}
 use lib.Seq.{set-set}
-use lib.Ieee.{Float, nan, binary32, le, of_bits}
+use lib.Ieee.{Float, nan, le}
 use mir.Val.{bool_byte}
 use Rattle.folds.proofs.Tests.{byte_is}
 use Rattle.folds.specs.Lists.{tabulated}
@@ -27,8 +27,7 @@ module _ {t : Table} {scores : List Float} {decoys : List ℕ} {slot : ℕ} (w :
 
   module _ (h : slot < length t.forward) {b : Bool} (seen_is : b ≡ slot_seen t slot) where
     pub slotwise_unseen : not b ≡ true
-        → Slotwise t (set scores slot (of_bits binary32 2143289344)) (set decoys slot 4294967295) (slot + 1)
-    unfolding of_bits
+        → Slotwise t (set scores slot nan) (set decoys slot 4294967295) (slot + 1)
     slotwise_unseen e =
         let s : slot_seen t slot ≡ false = sym seen_is ∙ not-true b e in
         record { scores_are = writing_step w.scores_are h (rw s); decoys_are = writing_step w.decoys_are h (rw s) }

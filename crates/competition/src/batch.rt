@@ -52,7 +52,8 @@ fn slot_allowed(slot: u32, count: usize) -> bool
     ((slot as usize) < count) | (slot == NO_PART)
 }
 
-// Question 5: is each slot below the slot count, or the no-part mark?
+// Question 5: is each slot below the slot count, or the no-part mark? It reads on behind a slot that is not allowed, so
+// that several are tested at a time.
 pub fn slots_allowed(slots: &[u32], count: usize) -> bool
     ensures { result ≡ all_allowed count slots.now }
 {
@@ -67,12 +68,9 @@ pub fn slots_allowed(slots: &[u32], count: usize) -> bool
 pub fn ask_batch(batch: &Batch, table: &Table) -> Result<(), Refusal>
     ensures { result ≡ batch_asked batch.now table.now }
 {
-    if !(batch.is_short() & table.is_short()) {
-        return Err(Refusal::TooLong);
-    }
-    if !(batch.fits() & table.fits()) {
-        return Err(Refusal::WrongLength);
-    }
+    let short = batch.is_short() & table.is_short();
+    let fits = batch.fits() & table.fits();
+    columns::ask_lengths(short, fits)?;
     if !slots_allowed(batch.slots, table.slots()) {
         return Err(Refusal::NoSuchSlot);
     }
@@ -101,12 +99,12 @@ fn add_row(slot: u32, label: i32, score: f32, table: TableMut)
     table.forward_seen[at] = 1;
 }
 
-// The rows of a batch, one after the other.
-fn add_all(batch: &Batch, table: TableMut)
-    requires { BatchReady batch.now (table_before table) }
-    ensures { let rows = batch.now in
-        table_after table.exit ≡ added rows.slots rows.labels rows.scores (table_before table.entry) }
+// Adds a batch of rows to a table: each row raises its slot's side by max and marks it seen.
+pub fn add_rows(batch: &Batch, table: TableMut) -> Result<(), Refusal>
+    ensures { table_run result (table_after table.exit) ≡ add_rows batch.now (table_before table.entry) }
 {
+    ask_batch(batch, &table.read())?;
+    // taken apart: of a struct of `&mut`s that is handed on whole, what its columns hold afterwards is lost
     let TableMut {
         forward,
         reverse,
@@ -126,28 +124,5 @@ fn add_all(batch: &Batch, table: TableMut)
             },
         );
     }
-}
-
-// Adds a batch of rows to a table: each row raises its slot's side by max and marks it seen.
-pub fn add_rows(batch: &Batch, table: TableMut) -> Result<(), Refusal>
-    ensures { table_run result (table_after table.exit) ≡ add_rows batch.now (table_before table.entry) }
-{
-    ask_batch(batch, &table.read())?;
-    // taken apart: of a struct of `&mut`s that is handed on whole, what its columns hold afterwards is lost
-    let TableMut {
-        forward,
-        reverse,
-        forward_seen,
-        reverse_seen,
-    } = table;
-    add_all(
-        batch,
-        TableMut {
-            forward,
-            reverse,
-            forward_seen,
-            reverse_seen,
-        },
-    );
     Ok(())
 }

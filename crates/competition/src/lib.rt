@@ -16,7 +16,7 @@ pub use table::{Table, TableMut, fresh_table, is_seen};
 pub use winner::winners;
 
 // A row that takes no part has this slot.
-pub const NO_PART: u32 = 4_294_967_295;
+pub const NO_PART: u32 = u32::MAX;
 
 // One slot's two sides.
 #[derive(Clone, Copy, Debug, PartialEq)]
@@ -26,8 +26,8 @@ pub struct Competition {
 }
 
 impl Competition {
-    // f32::MIN, the score of an unseen side
-    pub const UNSEEN: f32 = -3.4028235e38;
+    // the score of an unseen side
+    pub const UNSEEN: f32 = f32::MIN;
 
     pub fn raise_forward(mut self, score: f32) -> Self
         ensures { result ≡ record { forward = max_number self.forward score; reverse = self.reverse } }

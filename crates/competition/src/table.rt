@@ -87,13 +87,7 @@ pub fn is_seen(mark: u32) -> bool
 fn ask_fresh(table: &Table) -> Result<(), Refusal>
     ensures { result ≡ fresh_asked table.now }
 {
-    if !table.is_short() {
-        return Err(Refusal::TooLong);
-    }
-    if !table.fits() {
-        return Err(Refusal::WrongLength);
-    }
-    Ok(())
+    columns::ask_lengths(table.is_short(), table.fits())
 }
 
 // The table in which no side is seen.

@@ -6,20 +6,16 @@ ghost use Rattle.competition.specs.Inner.Ready.{WinnersReady};
 
 use crate::Competition;
 use crate::table::{Table, is_seen};
-use columns::Refusal;
+use columns::{HasBlank, Refusal};
 
 // Questions 1 and 2, of the table and the lengths of both result columns.
 fn ask_winners(table: &Table, scores: usize, is_decoy: usize) -> Result<(), Refusal>
     ensures { result ≡ winners_asked table.now scores is_decoy }
 {
-    if !table.is_short() {
-        return Err(Refusal::TooLong);
-    }
+    let short = table.is_short();
     let slots = table.slots();
-    if !(table.fits() & ((scores == slots) & (is_decoy == slots))) {
-        return Err(Refusal::WrongLength);
-    }
-    Ok(())
+    let fits = table.fits() & ((scores == slots) & (is_decoy == slots));
+    columns::ask_lengths(short, fits)
 }
 
 // Each slot's score() and is_decoy(); the blanks for an unseen slot. A flag is a number, 1 or 0, since the
@@ -30,8 +26,8 @@ fn write_winners(table: &Table, scores: &mut [f32], is_decoy: &mut [u32])
     ensures flags { is_decoy.new ≡ tabulated (decoy_flag table.now) 0 (length table.now.forward) }
 {
     for slot in 0..table.forward.len() {
-        scores[slot] = f32::NAN;
-        is_decoy[slot] = u32::MAX;
+        scores[slot] = f32::blank();
+        is_decoy[slot] = u32::blank();
         if !(is_seen(table.forward_seen[slot]) | is_seen(table.reverse_seen[slot])) {
             continue;
         }
@@ -48,15 +44,11 @@ fn write_winners(table: &Table, scores: &mut [f32], is_decoy: &mut [u32])
 pub fn winners(table: &Table, scores: &mut [f32], is_decoy: &mut [u32]) -> Result<(), Refusal>
     ensures { winners_run result scores.new is_decoy.new ≡ winners table.now scores.old is_decoy.old }
 {
-    match ask_winners(table, scores.len(), is_decoy.len()) {
-        Err(refusal) => {
-            columns::blank(scores);
-            columns::blank(is_decoy);
-            Err(refusal)
-        }
-        Ok(()) => {
-            write_winners(table, scores, is_decoy);
-            Ok(())
-        }
+    if let Err(refusal) = ask_winners(table, scores.len(), is_decoy.len()) {
+        columns::blank(scores);
+        columns::blank(is_decoy);
+        return Err(refusal);
     }
+    write_winners(table, scores, is_decoy);
+    Ok(())
 }

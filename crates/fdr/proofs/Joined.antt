@@ -1,18 +1,21 @@
 -- The passes joined with the definitions: the keys after the ranking are those of the ranked sides, their numbers the
 -- q-values, and a row reads at its name what the definition gives.
 use mathlib.Core.Path.{◌≡◌, refl, sym, ap, ap₂, ◌∙◌, subst}
+use mathlib.Core.Logic.{inl, inr}
 use mathlib.Core.List.{List, [], ◌∷◌, ◌++◌, map}
 use mathlib.Core.Bool.{Bool, true, false, cond}
 use Prim.Native.Nat.{ℕ, ◌*◌, ◌≤◌, ◌<◌}
-use native.Mathlib.Nat.{le_trans}
+use native.Mathlib.Nat.{le_refl, le_trans}
 use native.Mathlib.Omega.{arith}
-use lib.Dec.{eqb}
+use lib.Dec.{T, eqb}
 use lib.IntN.{ℤ, pos, negsuc}
 use lib.ListN.{length, get_or, take, drop, length-map, length-replicate, get_or-replicate}
 use lib.Seq.{take_at, length-take-le, length_front}
-use lib.Ieee.{Float, binary32, of_bits}
+use lib.Ieee.{Float, nan, binary32, fits, of_bits}
+use Rattle.std.proofs.lemmas.List.{get_or_past}
 use Rattle.folds.specs.Lists.{filled, tabulated}
 use Rattle.folds.specs.Inner.All.{All}
+use Rattle.folds.proofs.Tests.{lt_or_ge}
 use Rattle.folds.proofs.Writing.{tabulated_same, same_blank, all_map, all_at}
 use Rattle.floats.specs.Constants.{f32_one}
 use Rattle.floats.specs.Ratio.{one_in}
@@ -110,7 +113,8 @@ labels_same t (k ∷ ks) = ap (λ (l : List ℤ). label_of k ∷ l) (labels_same
 pub record Packs (bins : List Float) (t : Table) (slots : List ℕ) (labels : List ℤ) (keys₀ spare₀ : List ℕ)
     (q₀ : List Float) (rows : ℕ) (keys₁ : List ℕ) : Type 0 where
   pub ready : AssignReady t (length bins) slots (length labels) (length keys₀) (length spare₀) (length q₀)
-  pub scores : ScoresFit t (length t.forward)
+  pub forward_fit : (i : ℕ) → T (fits binary32 (get_or t.forward i nan))
+  pub reverse_fit : (i : ℕ) → T (fits binary32 (get_or t.reverse i nan))
   pub few : rows ≤ length keys₀
   pub same : length keys₁ ≡ length keys₀
   pub front : take rows keys₁ ≡ map side_key (seen_sides t)
@@ -124,6 +128,15 @@ pub record Ranks (settings : Settings) (bins : List Float) (t : Table) (keys spa
   pub same_keys : length keys₁ ≡ length keys
   pub same_spare : length spare₁ ≡ length spare
 
+-- a column's entries fit up to its length, and NaN does past it
+fit_past : (column : List Float) (n : ℕ) → length column ≤ n
+    → ((i : ℕ) → i < n → T (fits binary32 (get_or column i nan))) → (i : ℕ) → T (fits binary32 (get_or column i nan))
+unfolding fits
+fit_past column n h f i = elim (lt_or_ge i n) [
+  | inl k ↦ f i k
+  | inr k ↦ rw (get_or_past column i nan (le_trans h k)) tt
+]
+
 pub packs : (bins : List Float) {t : Table} {slots : List ℕ} (labels : List ℤ) (keys₀ spare₀ : List ℕ) (q₀ : List Float)
     {rows : ℕ} (keys₁ : List ℕ)
     → AssignReady t (length bins) slots (length labels) (length keys₀) (length spare₀) (length q₀)
@@ -132,8 +145,14 @@ pub packs : (bins : List Float) {t : Table} {slots : List ℕ} (labels : List �
     → length keys₁ ≡ length keys₀
     → take rows keys₁ ≡ map side_key (seen_sides t)
     → Packs bins t slots labels keys₀ spare₀ q₀ rows keys₁
-packs bins labels keys₀ spare₀ q₀ keys₁ a f h s k =
-    record { ready = a; scores = f; few = h; same = s; front = k }
+packs bins {t} labels keys₀ spare₀ q₀ keys₁ a f h s k = record {
+  ready = a;
+  forward_fit = fit_past t.forward (length t.forward) (le_refl _) f.forward;
+  reverse_fit = fit_past t.reverse (length t.forward) (rw a.pack.lengths.reverse_length (le_refl _)) f.reverse;
+  few = h;
+  same = s;
+  front = k;
+}
 
 pub ranks : (settings : Settings) (bins : List Float) (t : Table) (keys spare : List ℕ) {count : ℕ}
     (keys₁ spare₁ : List ℕ)
@@ -170,8 +189,11 @@ module _ {bins : List Float} {t : Table} {slots : List ℕ} {labels : List ℤ} 
   abbrev ks : List ℕ
   ks = sorted (take rows keys₁)
 
+  scores : ScoresFit t (length t.forward)
+  scores = record { forward = λ i h. w.forward_fit i; reverse = λ i h. w.reverse_fit i }
+
   ranked_are : map (key_side t) ks ≡ ranked_sides t
-  ranked_are = ap (λ (l : List ℕ). map (key_side t) (sorted l)) w.front ∙ sorted_sides t w.ready.pack.short (seen_fit t w.scores)
+  ranked_are = ap (λ (l : List ℕ). map (key_side t) (sorted l)) w.front ∙ sorted_sides t w.ready.pack.short (seen_fit t scores)
 
   module _ {settings : Settings} {count : ℕ} {part₁ spare₁ : List ℕ}
       (r : Ranks settings bins t (take rows keys₁) (take rows spare₀) count part₁ spare₁) where

@@ -4,26 +4,16 @@ use mathlib.Core.List.{List, [], ◌∷◌, ◌++◌, map, append-nil, append_as
 use mathlib.Core.Logic.{inl, inr}
 use mathlib.Core.Bool.{Bool, true, false, cond}
 use Prim.Native.Nat.{ℕ, suc, ◌+◌, ◌-◌, ◌*◌, ◌≤◌, ◌<◌}
-use native.Mathlib.Nat.{le_refl, add-zero}
 use native.Mathlib.Numerals.{add-one}
 use native.Mathlib.Omega.{arith}
-use lib.ListN.{length, get_or, take, set}
-use lib.Seq.{take-suc-set, take-set-le}
+use lib.ListN.{length, get_or, take}
 use lib.Dec.{T}
 use lib.Ieee.{nan, binary32, fits}
-use mir.Val.{bool_byte}
 use Rattle.folds.proofs.Tests.{lt_or_ge}
 use Rattle.ranking.specs.Inner.Layout.{packed, payload}
 use Rattle.competition.specs.Tables.{Table, is_seen}
 use Rattle.fdr.specs.Sides.{Side, side_of, if_seen, slot_sides, sides_from, seen_sides}
 use Rattle.fdr.specs.Inner.Passes.{side_key, ScoresFit}
-
--- a key is written always, and kept where its side is seen
-pub put_keeps : (seen : Bool) (keys : List ℕ) (rows key : ℕ) → rows < length keys
-    → take (rows + bool_byte seen) (set keys rows key) ≡ take rows keys ++ cond seen (key ∷ []) []
-put_keeps true keys rows key h = ap (λ (n : ℕ). take n (set keys rows key)) (add-one rows) ∙ take-suc-set keys rows key h
-put_keeps false keys rows key h =
-    ap (λ (n : ℕ). take n (set keys rows key)) (add-zero rows) ∙ take-set-le rows keys rows key (le_refl rows) ∙ sym (append-nil (take rows keys))
 
 -- one slot more
 up_to_next : (P : ℕ → Type 0) (n : ℕ) → ((i : ℕ) → i < n → P i) → P n → (i : ℕ) → i < n + 1 → P i

@@ -47,14 +47,11 @@ fn ask(
     ensures { result ≡ assign_asked table.now bins slots.now labels keys spare q }
 {
     let rows = slots.len();
-    if !(table.is_short() & ((rows <= columns::LONGEST) & (labels <= columns::LONGEST))) {
-        return Err(Refusal::TooLong);
-    }
-    let sides = 2 * table.slots();
-    let lengths_match = ((labels == rows) & (q == rows)) & ((keys == sides) & (spare == sides));
-    if !(table.fits() & lengths_match) {
-        return Err(Refusal::WrongLength);
-    }
+    let short = table.is_short() & ((rows <= columns::LONGEST) & (labels <= columns::LONGEST));
+    let sides = 2 * table.forward.len();
+    let fits = table.fits()
+        & (((labels == rows) & (q == rows)) & ((keys == sides) & (spare == sides)));
+    columns::ask_lengths(short, fits)?;
     if !kde::in_range(bins) {
         return Err(Refusal::OutOfRange);
     }
@@ -108,21 +105,18 @@ pub fn assign_q_value(
     ensures { ranked_run result keys.new spare.new q.new
         ≡ assign_q_value settings bins.now table.now slots.now labels.now keys.old spare.old q.old }
 {
-    let labelled = labels.len();
-    match ask(
+    if let Err(refusal) = ask(
         bins.len(),
         table,
         slots,
-        labelled,
+        labels.len(),
         keys.len(),
         spare.len(),
         q.len(),
     ) {
-        Err(refusal) => {
-            columns::clear(keys, spare);
-            columns::blank(q);
-            Err(refusal)
-        }
-        Ok(()) => Ok(assigned(settings, bins, table, slots, labels, keys, spare, q)),
+        columns::clear(keys, spare);
+        columns::blank(q);
+        return Err(refusal);
     }
+    Ok(assigned(settings, bins, table, slots, labels, keys, spare, q))
 }

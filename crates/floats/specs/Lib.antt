@@ -5,4 +5,3 @@ pub mod Whole
 pub mod MinMax
 pub mod TotalOrder
 pub mod Ratio
-pub mod Laws

@@ -4,7 +4,7 @@
 #![tactic(auto)]
 
 ghost use Rattle.std.specs.Prelude.{◌≡◌, ◌≤◌, ℕ, false, not, T, pos, negsuc, is_nan};
-ghost use Rattle.std.specs.Ordering.{partial_lt, nat_cmp};
+ghost use Rattle.std.specs.Ordering.{float_partial_cmp, nat_cmp};
 ghost use Rattle.std.specs.Float.{Float as Number, Format, binary32, binary64, fin};
 ghost use Rattle.std.specs.Float.Ieee.{fits, of_int, to_signed, to_unsigned, lt, le, eq, neg, sub};
 ghost use Rattle.floats.specs.Signs.{negative};
@@ -13,7 +13,6 @@ ghost use Rattle.floats.specs.Whole.{may_have_fraction, floored, ceiled};
 ghost use Rattle.floats.specs.MinMax.{min_number, max_number};
 ghost use Rattle.floats.specs.TotalOrder.{compared, sign_of, order_key};
 ghost use Rattle.floats.specs.Ratio.{f32_of_count};
-ghost use Rattle.floats.specs.Laws.{less_is};
 ghost use Rattle.std.proofs.Common.{refl};
 
 use std::cmp::Ordering;
@@ -59,7 +58,7 @@ pub trait Float: Copy + PartialOrd + Neg<Output = Self> + Sub<Output = Self> + I
 
     ghost equals: { (a b : Self) → Self.eq a b ≡ eq (number a) (number b) };
 
-    ghost less: { (a b : Self) → partial_lt Self.partial_cmp a b ≡ lt (number a) (number b) };
+    ghost compares: { (a b : Self) → Self.partial_cmp a b ≡ float_partial_cmp (number a) (number b) };
 
     ghost can_negate: { (a : Self) → Self.can_neg a };
 
@@ -110,7 +109,7 @@ impl Float for f32 {
 
     ghost equals = { λ a b. refl };
 
-    ghost less = { less_is };
+    ghost compares = { λ a b. refl };
 
     ghost can_negate = { λ a. tt };
 
@@ -161,7 +160,7 @@ impl Float for f64 {
 
     ghost equals = { λ a b. refl };
 
-    ghost less = { less_is };
+    ghost compares = { λ a b. refl };
 
     ghost can_negate = { λ a. tt };
 
@@ -261,17 +260,17 @@ pub fn to_usize<F: Float>(x: F) -> usize
 pub fn floor<F: Float>(x: F) -> F
     ensures { F.number result ≡ floored F.format (F.number x) }
 {
-    if x.may_have_fraction() {
-        let whole = x.cut();
-        if whole == x {
-            return x;
-        }
-        if whole < x {
-            return whole;
-        }
-        return whole - F::ONE;
+    if !x.may_have_fraction() {
+        return x;
     }
-    x
+    let whole = x.cut();
+    if whole == x {
+        return x;
+    }
+    if whole < x {
+        return whole;
+    }
+    whole - F::ONE
 }
 
 // The least whole number not below x.
@@ -307,15 +306,11 @@ pub fn max<F: Float>(a: F, b: F) -> F
     a
 }
 
-// −1, 0 or 1.
+// −1, 0 or 1, as C gets an order.
 pub fn sign(order: Ordering) -> i32
     ensures { result ≡ sign_of order }
 {
-    match order {
-        Ordering::Less => -1,
-        Ordering::Equal => 0,
-        Ordering::Greater => 1,
-    }
+    order as i32
 }
 
 // A number that stands among the numbers as x stands among the floats.

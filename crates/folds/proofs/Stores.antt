@@ -1,13 +1,11 @@
--- Walks that store an entry a turn, walks that change nothing, and a test of all numbers that is gathered turn by turn.
+-- Walks that store an entry a turn, and walks that change nothing.
 use mathlib.Core.Path.{◌≡◌, refl, ap, ◌∙◌, subst}
 use mathlib.Core.List.{List, [], ◌∷◌}
-use mathlib.Core.Bool.{Bool, ◌&&◌}
 use Prim.Native.Nat.{ℕ, zero, suc, ◌+◌, ◌-◌, ◌≤◌, ◌<◌}
-use native.Mathlib.Numerals.{add-one}
 use native.Mathlib.Omega.{arith}
 use lib.ListN.{length, get_or, set}
 use lib.Seq.{get_or-set_other}
-use Rattle.folds.specs.Walks.{steps, for_range, every}
+use Rattle.folds.specs.Walks.{steps, for_range}
 use Rattle.folds.proofs.Writing.{Writing, writing_step}
 
 -- ---- a walk that stores f i at each place i
@@ -78,14 +76,3 @@ module _ {S : Type 0} (f : ℕ → S → S) (s : S) where
 
   pub for_range_unchanged : (a b : ℕ) → ((i : ℕ) → a ≤ i → i < b → f i s ≡ s) → for_range f a b s ≡ s
   for_range_unchanged a b h = steps_unchanged a (b - a) (λ i l g. h i l (omega arith))
-
--- ---- whether all numbers pass: all = all & p(j)
-
-pub every_next : (p : ℕ → Bool) {j : ℕ} {all x : Bool} → all ≡ every p j → x ≡ p j → (all && x) ≡ every p (j + 1)
-unfolding every
-every_next p {j} e f = rw (add-one, e, f)
-
-pub every_done : (p : ℕ → Bool) {j n : ℕ} {all : Bool} → all ≡ every p j → j ≤ n → n ≤ j → all ≡ every p n
-every_done p {j} {n} e h l =
-    let z : j ≡ n = omega arith in
-    e ∙ ap (every p) z

@@ -68,9 +68,6 @@ pub record WalkDown {S : Type 0} (f : ℕ → S → S) (i n : ℕ) (s₀ s : S) 
   pub high : i ≤ n
   pub is : for_range_down f i s ≡ for_range_down f n s₀
 
-pub walk_down_start : {S : Type 0} {f : ℕ → S → S} {n : ℕ} {s : S} → WalkDown f n n s s
-walk_down_start {n = n} = record { high = le_refl n; is = refl }
-
 for_range_down_more : {S : Type 0} (f : ℕ → S → S) (j : ℕ) (s : S)
     → for_range_down f (suc j) s ≡ for_range_down f j (f j s)
 unfolding for_range_down

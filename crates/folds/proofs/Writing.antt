@@ -180,12 +180,6 @@ pub writing_mapped : {A B : Type 0} (g : A → B) (c : A) {d : B} {n : ℕ} (l :
     → Writing (λ k. g (get_or l k c)) d n column i → n ≡ length l → length column ≤ i → column ≡ map g l
 writing_mapped g c l w e h = writing_all w h ∙ rw e (tabulated_map g c l)
 
--- with another column's entries
-pub writing_copied : {A : Type 0} {d : A} {l column : List A} {i : ℕ}
-    → Writing (λ k. get_or l k d) d (length l) column i
-    → length l ≤ i → column ≡ l
-writing_copied {d = d} {l} {column} w h = ext_get_or d column l w.same (λ k g. w.is k (omega (arith, w.same)))
-
 -- ---- entries rewritten from the front, up to a width
 
 pub record Rewriting {A : Type 0} (old new : ℕ → A) (d : A) (n : ℕ) (column : List A) (i : ℕ) : Type 0 where

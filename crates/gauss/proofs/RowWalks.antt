@@ -1,13 +1,13 @@
 -- The walk along a row that its first nonzero entry ends, inside the walk over the rows from the last up: a turn of
 -- `reduce` and of `backfill`, for any f that is done at the entry found.
-use mathlib.Core.Path.{◌≡◌, refl, sym, ap, ◌∙◌, subst}
+use mathlib.Core.Path.{◌≡◌, sym, ap, ◌∙◌, subst}
 use Prim.Native.Nat.{ℕ, ◌+◌, ◌≤◌, ◌<◌}
 use mathlib.Core.Bool.{Bool, true, false, not, cond}
 use lib.Dec.{ltb}
 use lib.Ieee.{eq}
 use borrow.Author.Tests.{lt-ltb, le-ltb}
 use Rattle.folds.specs.Walks.{find_in_range}
-use Rattle.folds.proofs.Walks.{WalkDown, walk_down_step, Finding, finding_start, finding_step, finding_found, finding_none}
+use Rattle.folds.proofs.Walks.{WalkDown, walk_down_step, Finding, finding_step, finding_found, finding_none}
 use Rattle.floats.specs.Constants.{f64_zero}
 use Rattle.gauss.specs.Elimination.{Matrix, entry, nonzero, at_first_nonzero}
 
@@ -15,9 +15,6 @@ use Rattle.gauss.specs.Elimination.{Matrix, entry, nonzero, at_first_nonzero}
 pub record RowWalk (size i j : ℕ) (m₀ m : Matrix) : Type 0 where
   pub same : m ≡ m₀
   pub finding : Finding (nonzero m i) 0 j size
-
-pub row_walk_start : {size i : ℕ} {m : Matrix} → 0 ≤ size → RowWalk size i 0 m m
-row_walk_start h = record { same = refl; finding = finding_start h }
 
 pub row_walk_step : {size i j : ℕ} {m₀ m : Matrix} → RowWalk size i j m₀ m → j < size → eq (entry m i j) f64_zero ≡ true
     → RowWalk size i (j + 1) m₀ m

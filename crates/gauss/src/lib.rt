@@ -11,6 +11,9 @@ ghost use Rattle.gauss.specs.Solutions.{joined, values, attempt, solution};
 
 use columns::Refusal;
 
+// A system inside: its rows, each with its right-hand number.
+type Table = [[f64; 21]; 20];
+
 // How many rows and columns of a table a system has.
 #[derive(Clone, Copy)]
 struct Size {
@@ -26,7 +29,7 @@ struct Pivot {
 }
 
 // Rows i and j change places. Where they are one, nothing is moved.
-fn swap_rows(m: &mut [[f64; 21]; 20], i: usize, j: usize)
+fn swap_rows(m: &mut Table, i: usize, j: usize)
     requires { (i < 20) × (j < 20) }
     ensures { m.new ≡ swapped i j m.old }
 {
@@ -55,7 +58,7 @@ fn solve_inner(
 
 // The table of the system after the first two stages. With reduce and backfill in one function, the compiler copies
 // the table between stages.
-fn upper_form(left: &[[f64; 20]; 20], right: &[f64; 20], size: Size, eps: f64) -> [[f64; 21]; 20]
+fn upper_form(left: &[[f64; 20]; 20], right: &[f64; 20], size: Size, eps: f64) -> Table
     ensures { let system = joined left.now right.now size.rows in
         result ≡ echeloned size.rows (diagonal_filled size.rows eps system) }
 {
@@ -65,7 +68,7 @@ fn upper_form(left: &[[f64; 20]; 20], right: &[f64; 20], size: Size, eps: f64) -
 }
 
 // The right-hand numbers, and 0 past the size.
-fn answers(m: &[[f64; 21]; 20], size: Size) -> [f64; 20]
+fn answers(m: &Table, size: Size) -> [f64; 20]
     ensures { result ≡ values size.rows m.now }
 {
     let mut out = [0.0; 20];
@@ -112,7 +115,7 @@ pub fn solve_at(
 }
 
 // The table of a system: each row of `left` up to the size, with its number of `right`.
-fn join(left: &[[f64; 20]; 20], right: &[f64; 20], size: Size) -> [[f64; 21]; 20]
+fn join(left: &[[f64; 20]; 20], right: &[f64; 20], size: Size) -> Table
     ensures { result ≡ joined left.now right.now size.rows }
 {
     let mut m = [[0.0; 21]; 20];
@@ -125,7 +128,7 @@ fn join(left: &[[f64; 20]; 20], right: &[f64; 20], size: Size) -> [[f64; 21]; 20
     m
 }
 
-fn fill_zero(mut m: [[f64; 21]; 20], size: Size, eps: f64) -> [[f64; 21]; 20]
+fn fill_zero(mut m: Table, size: Size, eps: f64) -> Table
     ensures { result ≡ diagonal_filled size.rows eps m }
 {
     for i in 0..size.rows {
@@ -135,7 +138,7 @@ fn fill_zero(mut m: [[f64; 21]; 20], size: Size, eps: f64) -> [[f64; 21]; 20]
 }
 
 // Is each diagonal entry 1 or 0, and no other above 1E-8?
-fn left_solved(m: &[[f64; 21]; 20], size: Size) -> bool
+fn left_solved(m: &Table, size: Size) -> bool
     ensures { result ≡ left_solved size.rows m.now }
 {
     for i in 0..size.rows {
@@ -159,7 +162,7 @@ fn entry_solved(x: f64, diagonal: bool) -> bool
 }
 
 // h counts the pivots found, so it is at most k, and the columns end the walk.
-fn echelon(mut m: [[f64; 21]; 20], size: Size) -> [[f64; 21]; 20]
+fn echelon(mut m: Table, size: Size) -> Table
     ensures { result ≡ echeloned size.rows m }
 {
     let mut h = 0;
@@ -177,7 +180,7 @@ fn echelon(mut m: [[f64; 21]; 20], size: Size) -> [[f64; 21]; 20]
 
 // The row with the largest entry of column k from row h down, the last among equals; row 0 where none is at least
 // f64::MIN.
-fn pivot_row(m: &[[f64; 21]; 20], size: Size, h: usize, k: usize) -> usize
+fn pivot_row(m: &Table, size: Size, h: usize, k: usize) -> usize
     requires { (h < size.rows) × (k < size.rows) }
     ensures { (result ≡ pivot_row size.rows h k m.now) × (result < size.rows) }
 {
@@ -201,7 +204,7 @@ fn pivot_row(m: &[[f64; 21]; 20], size: Size, h: usize, k: usize) -> usize
 }
 
 // Clears column k below the pivot row h, which is copied once.
-fn clear_below(m: &mut [[f64; 21]; 20], size: Size, h: usize, k: usize)
+fn clear_below(m: &mut Table, size: Size, h: usize, k: usize)
     requires { (h < size.rows) × (k < size.rows) }
     ensures { m.new ≡ cleared_below size.rows h k m.old }
 {
@@ -214,7 +217,7 @@ fn clear_below(m: &mut [[f64; 21]; 20], size: Size, h: usize, k: usize)
 }
 
 // Takes factor times the row p from row i, from column j on, and from its right-hand number.
-fn subtract(m: &mut [[f64; 21]; 20], p: &[f64; 21], size: Size, i: usize, j: usize, factor: f64)
+fn subtract(m: &mut Table, p: &[f64; 21], size: Size, i: usize, j: usize, factor: f64)
     requires { (i < 20) × (j ≤ size.rows) }
     ensures { m.new ≡ row_subtracted p.now size.rows i j factor m.old }
 {
@@ -224,8 +227,8 @@ fn subtract(m: &mut [[f64; 21]; 20], p: &[f64; 21], size: Size, i: usize, j: usi
     m[i][20] -= p[20] * factor;
 }
 
-// Each row is divided by its first nonzero entry.
-fn reduce(mut m: [[f64; 21]; 20], size: Size) -> [[f64; 21]; 20]
+// Each row is divided by its first nonzero entry. Nested loops left by a label: so this project writes such walks.
+fn reduce(mut m: Table, size: Size) -> Table
     ensures { result ≡ reduced size.rows m }
 {
     'rows: for i in (0..size.rows).rev() {
@@ -242,7 +245,7 @@ fn reduce(mut m: [[f64; 21]; 20], size: Size) -> [[f64; 21]; 20]
 }
 
 // Divides row i by x, from column j on, and its right-hand number.
-fn divide(m: &mut [[f64; 21]; 20], size: Size, i: usize, j: usize, x: f64)
+fn divide(m: &mut Table, size: Size, i: usize, j: usize, x: f64)
     requires { (i < 20) × (j ≤ size.rows) }
     ensures { m.new ≡ row_divided size.rows i j x m.old }
 {
@@ -252,8 +255,9 @@ fn divide(m: &mut [[f64; 21]; 20], size: Size, i: usize, j: usize, x: f64)
     m[i][20] /= x;
 }
 
-// Solves the upper triangular matrix: the column of each row's first nonzero entry is cleared above it.
-fn backfill(mut m: [[f64; 21]; 20], size: Size) -> [[f64; 21]; 20]
+// Solves the upper triangular matrix: the column of each row's first nonzero entry is cleared above it, in a walk like
+// that of `reduce`.
+fn backfill(mut m: Table, size: Size) -> Table
     ensures { result ≡ backfilled size.rows m }
 {
     'rows: for i in (0..size.rows).rev() {
@@ -269,7 +273,7 @@ fn backfill(mut m: [[f64; 21]; 20], size: Size) -> [[f64; 21]; 20]
 }
 
 // Clears column j above row i: factor times row i is taken from each row above, from column 0 on.
-fn clear_above(m: &mut [[f64; 21]; 20], size: Size, i: usize, j: usize)
+fn clear_above(m: &mut Table, size: Size, i: usize, j: usize)
     requires { (i < size.rows) × (j < size.rows) }
     ensures { m.new ≡ cleared_above size.rows i j m.old }
 {

@@ -1,4 +1,5 @@
--- What the questions' answers say of the numbers that were asked, for what the work after them requires.
+-- What the questions' answers say of the numbers that were asked, for what the work after them requires, and what a
+-- call leaves where one is not met.
 use mathlib.Core.Path.{◌≡◌}
 use mathlib.Core.List.{List}
 use mathlib.Core.Bool.{Bool, true, ◌&&◌}
@@ -9,12 +10,14 @@ use lib.Dec.{leb, eqb, leb→le}
 use lib.ListN.{length}
 use lib.Ieee.{Float}
 use Rattle.folds.proofs.Tests.{both_true}
-use Rattle.columns.specs.Refusals.{longest}
+use Rattle.columns.specs.Refusals.{longest, Asked, answered}
+use Rattle.columns.specs.declared.Refusal.{Refusal}
 use Rattle.columns.specs.declared.Refusal.TheVariants.{TooLong, WrongLength, OutOfRange}
-use Rattle.std.specs.Prelude.{Ok}
+use Rattle.std.specs.Prelude.{Result, Ok, Err}
+use Rattle.std.specs.Result.{IsErrAnd}
 use Rattle.columns.proofs.Questions.{met, asked_lengths}
 use Rattle.kde.specs.declared.Builder.{Builder}
-use Rattle.kde.specs.Bins.{in_range, InRange, asked, bin_scores_asked, bins_asked}
+use Rattle.kde.specs.Bins.{in_range, InRange, asked, bin_scores_asked, Densities, bins_asked}
 use Rattle.kde.specs.Estimate.{errors_asked}
 use Rattle.kde.specs.LogErrors.{log_errors_asked}
 use Rattle.kde.specs.Inner.BinsReady.{BinsReady}
@@ -54,22 +57,24 @@ errors_passed bins scores errors e =
 pub log_errors_passed : (logs errors : ℕ) → log_errors_asked logs errors ≡ Ok tt → errors ≡ logs
 log_errors_passed logs errors e = (asked_lengths logs errors e).0
 
--- of a builder and three columns, with counts of the list
-module _ (builder : Builder) (listed decoys total : ℕ) (decoy_density target_density bins : List Float) where
-  pub bins_passed : bins_asked builder.bins listed (length decoy_density) (length target_density) (length bins)
+-- of a builder, the densities and the bins, with counts of the list
+module _ (builder : Builder) (listed decoys total : ℕ) (densities : Densities) (bins : List Float) where
+  pub bins_passed : bins_asked builder.bins listed (length densities.decoy) (length densities.target) (length bins)
       ≡ Ok tt
       → decoys ≤ total → total ≤ listed
-      → BinsReady builder decoys total decoy_density target_density bins
+      → BinsReady builder decoys total densities bins
   bins_passed e h k =
       let n = builder.bins in
-      let p = passed listed (eqb (length decoy_density) n && eqb (length target_density) n && eqb (length bins) n) n e in
+      let decoy = eqb (length densities.decoy) n in
+      let target = eqb (length densities.target) n in
+      let p = passed listed (decoy && target && eqb (length bins) n) n e in
       let short = p.short in
-      let third = both_true (eqb (length decoy_density) n && eqb (length target_density) n) (eqb (length bins) n) p.matches in
-      let second = both_true (eqb (length decoy_density) n) (eqb (length target_density) n) third.0 in
+      let third = both_true (decoy && target) (eqb (length bins) n) p.matches in
+      let second = both_true decoy target third.0 in
       record {
         some = p.range.0;
-        decoy_length = eqb-true (length decoy_density) n second.0;
-        target_length = eqb-true (length target_density) n second.1;
+        decoy_length = eqb-true (length densities.decoy) n second.0;
+        target_length = eqb-true (length densities.target) n second.1;
         bins_length = eqb-true (length bins) n third.1;
         decoys_few = h;
         total_few = omega arith;

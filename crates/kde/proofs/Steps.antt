@@ -1,16 +1,11 @@
--- A score's two bins: its number of steps needs no floor before the cut to a whole number, and the bin above is one
--- more, or none.
-use mathlib.Core.Path.{◌≡◌, refl}
+-- A score's number of steps needs no floor before the cut to a whole number, and its posterior error lies between two
+-- bins.
+use mathlib.Core.Path.{◌≡◌}
 use mathlib.Core.List.{List}
-use mathlib.Core.Bool.{Bool, true, false}
-use Prim.Native.Nat.{ℕ, ◌+◌, ◌-◌, ◌≤◌, min}
-use native.Mathlib.Omega.{arith}
-use borrow.Author.Tests.{ltb-true, ltb-false}
-use lib.Dec.{ltb}
+use Prim.Native.Nat.{ℕ, ◌+◌, ◌-◌, min}
 use lib.ListN.{length, get_or}
 use lib.Ieee.{Float, nan, binary64, to_unsigned, sub, div}
 use lib.Ieee.Fits.{div-fits}
-use mir.Val.{bool_byte}
 use Rattle.floats.proofs.Whole.{floor_then_convert}
 use Rattle.kde.specs.declared.Estimator.{Estimator}
 use Rattle.kde.specs.Estimate.{steps_up, factor, interpolated, posterior_error}
@@ -22,13 +17,6 @@ quotient e score = div binary64 (sub binary64 score e.min_score) e.score_step
 pub steps_are : (e : Estimator) (score : Float) → steps_up e score ≡ to_unsigned 64 (quotient e score)
 unfolding steps_up
 steps_are e score = floor_then_convert binary64 (quotient e score) (div-fits binary64 _ _)
-
-pub upper_bin : (low last : ℕ) → low ≤ last → low + bool_byte (ltb low last) ≡ min last (low + 1)
-upper_bin low last h = go (ltb low last) refl
-  where
-    go : (b : Bool) → ltb low last ≡ b → low + bool_byte b ≡ min last (low + 1)
-    go true e = let k = ltb-true low last e in omega arith
-    go false e = let k = ltb-false low last e in omega arith
 
 pub posterior_by : (e : Estimator) (bins : List Float) (score : Float) (low high : ℕ)
     → low ≡ min (length bins - 1) (steps_up e score) → high ≡ min (length bins - 1) (low + 1)

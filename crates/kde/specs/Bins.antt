@@ -72,9 +72,7 @@ bin_scores_run answer bin_scores = record { answer = answer; bin_scores = bin_sc
 
 -- questions 1, 2 and 3, of a bin count, a list of scores and a column of bin scores
 abbrev pub bin_scores_asked : ℕ → ℕ → ℕ → Asked
-bin_scores_asked bins scores column =
-    if_not (leb scores longest) TooLong
-    (if_not (eqb column bins) WrongLength (if_not (in_range bins) OutOfRange (Ok tt)))
+bin_scores_asked bins scores column = asked scores (eqb column bins) bins
 
 -- the estimator, and the score of every bin; a refusal leaves NaN in every place
 unfoldable pub bin_scores_of : Builder → List Float → List Float → BinScoresRun
@@ -85,6 +83,14 @@ bin_scores_of builder scores column =
     (λ r. bin_scores_run (Err r) (filled nan column))
 
 -- ---- step two: "bins as decoy / (target + decoy)"
+
+-- the host's two densities, taken at the scores of the bins
+pub record Densities : Type 0 where
+  pub decoy : List Float
+  pub target : List Float
+
+abbrev pub densities_of : List Float → List Float → Densities
+densities_of decoy target = record { decoy = decoy; target = target }
 
 -- a bin, by its number, from both densities there
 abbrev pub posterior_bin : Float → List Float → List Float → ℕ → Float
@@ -125,9 +131,7 @@ column_run answer column = record { answer = answer; column = column }
 -- questions 1, 2 and 3, of a bin count, a list of rows or slots, two densities and a column of bins
 abbrev pub bins_asked : ℕ → ℕ → ℕ → ℕ → ℕ → Asked
 bins_asked bins listed decoy_density target_density column =
-    if_not (leb listed longest) TooLong
-    (if_not (eqb decoy_density bins && eqb target_density bins && eqb column bins) WrongLength
-    (if_not (in_range bins) OutOfRange (Ok tt)))
+    asked listed (eqb decoy_density bins && eqb target_density bins && eqb column bins) bins
 
 -- the bins, for a list's number of decoys and of all that take part; a refusal leaves NaN in every place
 unfoldable pub built_bins : Builder → ℕ → ℕ → ℕ → List Float → List Float → List Float → ColumnRun

@@ -1,15 +1,15 @@
 -- The posterior error of a score, in the order of operations of the Rust's Estimator::posterior_error. Document 01,
 -- module 4: "An estimator is the bin column with its least score and its step."
-use Rattle.std.specs.Prelude.{List, map, cond, ℕ, ◌+◌, ◌-◌, min, leb, eqb, length, get_or, Float, Result, Ok, Err}
+use Rattle.std.specs.Prelude.{List, map, cond, ℕ, ◌+◌, ◌-◌, min, eqb, length, get_or, Float, Result, Ok, Err}
 use Rattle.std.specs.Float.{nan, binary64}
 use Rattle.std.specs.Float.Ieee.{to_unsigned, add, sub, mul, div}
 use Rattle.folds.specs.Lists.{filled}
 use Rattle.floats.specs.Whole.{floored}
-use Rattle.columns.specs.Refusals.{longest, Asked, if_not, answered}
+use Rattle.columns.specs.Refusals.{Asked, answered}
 use Rattle.columns.specs.declared.Refusal.{Refusal}
-use Rattle.columns.specs.declared.Refusal.TheVariants.{TooLong, WrongLength, OutOfRange}
+use Rattle.columns.specs.declared.Refusal.TheVariants.{OutOfRange}
 use Rattle.kde.specs.declared.Estimator.{Estimator}
-use Rattle.kde.specs.Bins.{in_range, bin_score, ColumnRun, column_run}
+use Rattle.kde.specs.Bins.{in_range, asked, bin_score, ColumnRun, column_run}
 
 -- how many whole steps a score lies above the least, as Rust's floor() and `as usize` have it
 unfoldable pub steps_up : Estimator → Float → ℕ
@@ -46,9 +46,7 @@ posterior_value (Err r) = nan
 
 -- questions 1, 2 and 3, of a bin column, a list of scores and a column of errors
 abbrev pub errors_asked : ℕ → ℕ → ℕ → Asked
-errors_asked bins scores errors =
-    if_not (leb scores longest) TooLong
-    (if_not (eqb errors scores) WrongLength (if_not (in_range bins) OutOfRange (Ok tt)))
+errors_asked bins scores errors = asked scores (eqb errors scores) bins
 
 -- the posterior error of every score; a refusal leaves NaN in every place
 unfoldable pub posterior_errors : Estimator → List Float → List Float → List Float → ColumnRun

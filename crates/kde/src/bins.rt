@@ -10,6 +10,7 @@ ghost use Rattle.kde.specs.Inner.BinsReady.{BinsReady};
 
 use crate::{Builder, Estimator, ask};
 use columns::{Refusal, or_blank};
+use std::marker::Model;
 
 // The least and the greatest score.
 #[derive(Clone, Copy)]
@@ -67,17 +68,31 @@ pub fn bin_scores(
     Ok(estimator)
 }
 
-// decoy / (target + decoy) in every bin. The two densities stay two columns, as C has them: a struct would be made in
-// both calls of step two, and the clauses would then say `densities.entry.decoy.now`.
-fn mix(pi: f64, decoy_density: &[f64], target_density: &[f64], bins: &mut [f64])
-    requires decoy_density_len { length decoy_density.now ≡ length bins.old }
-    requires target_density_len { length target_density.now ≡ length bins.old }
-    ensures { let bin = posterior_bin pi decoy_density.now target_density.now in
+// The host's two densities, taken at the scores of the bins. A contract sees the record of them.
+#[derive(Drop)]
+pub struct Densities<'a> {
+    pub decoy: &'a [f64],
+    pub target: &'a [f64],
+}
+
+impl<'a> Model for Densities<'a> {
+    ghost use Rattle.kde.specs.Bins.{Densities as Columns, densities_of};
+
+    ghost Value = { Columns };
+
+    ghost view = { λ d. densities_of d.decoy.now d.target.now };
+}
+
+// decoy / (target + decoy) in every bin.
+fn mix(pi: f64, densities: &Densities, bins: &mut [f64])
+    requires decoy_density_len { length densities.now.decoy ≡ length bins.old }
+    requires target_density_len { length densities.now.target ≡ length bins.old }
+    ensures { let bin = posterior_bin pi densities.now.decoy densities.now.target in
         bins.new ≡ tabulated bin 0 (length bins.old) }
 {
     for bin in 0..bins.len() {
-        let decoy = decoy_density[bin] * pi;
-        let target = target_density[bin] * (1.0 - pi);
+        let decoy = densities.decoy[bin] * pi;
+        let target = densities.target[bin] * (1.0 - pi);
         bins[bin] = decoy / (target + decoy);
     }
 }
@@ -99,17 +114,14 @@ fn build_bins(
     builder: Builder,
     decoys: usize,
     total: usize,
-    decoy_density: &[f64],
-    target_density: &[f64],
+    densities: &Densities,
     bins: &mut [f64],
 )
-    requires { BinsReady builder decoys total decoy_density.now target_density.now bins.old }
-    ensures { let decoy = decoy_density.now in
-        let target = target_density.now in
-        bins.new ≡ bins_of builder decoys total decoy target }
+    requires { BinsReady builder decoys total densities.now bins.old }
+    ensures { bins.new ≡ bins_of builder decoys total densities.now.decoy densities.now.target }
 {
     let pi = decoys as f64 / total as f64;
-    mix(pi, decoy_density, target_density, bins);
+    mix(pi, densities, bins);
     if builder.monotonic {
         raise(bins);
     }
@@ -119,17 +131,16 @@ fn build_bins(
 fn ask_bins(
     bins: usize,
     listed: usize,
-    decoy_density: &[f64],
-    target_density: &[f64],
+    densities: &Densities,
     column: &mut [f64],
 ) -> Result<(), Refusal>
-    ensures answer { let decoy = length decoy_density.now in
-        let target = length target_density.now in
+    ensures answer { let decoy = length densities.now.decoy in
+        let target = length densities.now.target in
         result ≡ bins_asked bins listed decoy target (length column.old) }
     ensures column { column.new ≡ answered result column.old (λ r. filled nan column.old) }
 {
-    let lengths_match = (decoy_density.len() == bins)
-        & (target_density.len() == bins)
+    let lengths_match = (densities.decoy.len() == bins)
+        & (densities.target.len() == bins)
         & (column.len() == bins);
     or_blank(ask(listed, lengths_match, bins), column)
 }
@@ -138,19 +149,18 @@ fn ask_bins(
 pub fn posterior_bins(
     builder: Builder,
     labels: &[i32],
-    decoy_density: &[f64],
-    target_density: &[f64],
+    densities: &Densities,
     bins: &mut [f64],
 ) -> Result<(), Refusal>
-    ensures { let decoy = decoy_density.now in
-        let target = target_density.now in
+    ensures { let decoy = densities.now.decoy in
+        let target = densities.now.target in
         let before = bins.old in
         column_run result bins.new ≡ label_bins builder labels.now decoy target before }
 {
     let listed = labels.len();
-    ask_bins(builder.bins, listed, decoy_density, target_density, bins)?;
+    ask_bins(builder.bins, listed, densities, bins)?;
     let decoys = counting::count_decoys(labels);
-    build_bins(builder, decoys, listed, decoy_density, target_density, bins);
+    build_bins(builder, decoys, listed, densities, bins);
     Ok(())
 }
 
@@ -159,19 +169,18 @@ pub fn posterior_bins(
 pub fn slot_posterior_bins(
     builder: Builder,
     is_decoy: &[u32],
-    decoy_density: &[f64],
-    target_density: &[f64],
+    densities: &Densities,
     bins: &mut [f64],
 ) -> Result<(), Refusal>
-    ensures { let decoy = decoy_density.now in
-        let target = target_density.now in
+    ensures { let decoy = densities.now.decoy in
+        let target = densities.now.target in
         let before = bins.old in
         column_run result bins.new ≡ slot_bins builder is_decoy.now decoy target before }
 {
     let listed = is_decoy.len();
-    ask_bins(builder.bins, listed, decoy_density, target_density, bins)?;
+    ask_bins(builder.bins, listed, densities, bins)?;
     let decoys = counting::how_many(is_decoy, 1);
     let total = decoys + counting::how_many(is_decoy, 0);
-    build_bins(builder, decoys, total, decoy_density, target_density, bins);
+    build_bins(builder, decoys, total, densities, bins);
     Ok(())
 }

@@ -1,5 +1,5 @@
 // Estimator::posterior_error, for one score and for a column of them.
-ghost use Rattle.std.specs.Prelude.{◌≡◌, ◌+◌, ◌≤◌, ◌<◌, min, length};
+ghost use Rattle.std.specs.Prelude.{◌≡◌, ◌<◌, min, length};
 ghost use Rattle.kde.specs.Estimate.{steps_up, posterior_error, posterior_answer};
 ghost use Rattle.kde.specs.Bins.{column_run, InRange};
 ghost use Rattle.kde.specs.Estimate.{posterior_errors};
@@ -18,13 +18,6 @@ fn lower_bin(estimator: Estimator, last: usize, score: f64) -> usize
     floats::whole_part(held) as usize
 }
 
-fn upper_bin(bin_lo: usize, last: usize) -> usize
-    requires { (bin_lo ≤ last) × (last < 65536) }
-    ensures { result ≡ min last (bin_lo + 1) }
-{
-    bin_lo + (bin_lo < last) as usize
-}
-
 // Estimator::posterior_error on a bin column of 1 to 65,536 places. Estimator and bins are not one struct: a rule of
 // the project passes an estimator by value, beside the bin column.
 pub fn posterior_at(estimator: Estimator, bins: &[f64], score: f64) -> f64
@@ -35,7 +28,7 @@ pub fn posterior_at(estimator: Estimator, bins: &[f64], score: f64) -> f64
     let score_step = estimator.score_step;
     let last = bins.len() - 1;
     let bin_lo = lower_bin(estimator, last, score);
-    let bin_hi = upper_bin(bin_lo, last);
+    let bin_hi = last.min(bin_lo + 1);
     let lower = bins[bin_lo];
     let upper = bins[bin_hi];
     let bin_lo_score = bin_lo as f64 * score_step + min_score;
@@ -48,10 +41,10 @@ pub fn posterior_at(estimator: Estimator, bins: &[f64], score: f64) -> f64
 pub fn posterior_error(estimator: Estimator, bins: &[f64], score: f64) -> Result<f64, Refusal>
     ensures { result ≡ posterior_answer estimator bins.now score }
 {
-    if crate::in_range(bins.len()) {
-        return Ok(posterior_at(estimator, bins, score));
+    if !crate::in_range(bins.len()) {
+        return Err(Refusal::OutOfRange);
     }
-    Err(Refusal::OutOfRange)
+    Ok(posterior_at(estimator, bins, score))
 }
 
 // The posterior error of every score of a column.

@@ -16,7 +16,7 @@ mod estimate;
 mod logs;
 mod tolerances;
 
-pub use bins::{bin_scores, posterior_bins, slot_posterior_bins};
+pub use bins::{Densities, bin_scores, posterior_bins, slot_posterior_bins};
 pub use estimate::{posterior_at, posterior_error, posterior_errors};
 pub use logs::{log_error, log_errors};
 pub use tolerances::bin_count;
@@ -28,19 +28,14 @@ pub const MOST_BINS: usize = 65_536;
 pub fn in_range(bins: usize) -> bool
     ensures { result ≡ in_range bins }
 {
-    (1 <= bins) & (bins <= MOST_BINS)
+    (1..=MOST_BINS).contains(&bins)
 }
 
 // Questions 1, 2 and 3: of a list's length, of lengths that match or do not, and of a bin count.
 fn ask(listed: usize, lengths_match: bool, bins: usize) -> Result<(), Refusal>
     ensures { result ≡ asked listed lengths_match bins }
 {
-    if columns::LONGEST < listed {
-        return Err(Refusal::TooLong);
-    }
-    if !lengths_match {
-        return Err(Refusal::WrongLength);
-    }
+    columns::ask_lengths(listed <= columns::LONGEST, lengths_match)?;
     if !in_range(bins) {
         return Err(Refusal::OutOfRange);
     }

@@ -11,10 +11,10 @@ fn range_bins(lo: f32, hi: f32, least: f32) -> Result<usize, Refusal>
     ensures { result ≡ count_answer (range_bins lo hi least) }
 {
     let bins = floats::to_usize(floats::ceil(floats::max(hi - lo, least)));
-    if crate::in_range(bins) {
-        return Ok(bins);
+    if !crate::in_range(bins) {
+        return Err(Refusal::OutOfRange);
     }
-    Err(Refusal::OutOfRange)
+    Ok(bins)
 }
 
 // The number of bins for mass errors within a tolerance.

@@ -157,18 +157,11 @@ fn line_at_one_in_20(rt: &impl Print, labels: &[i32], line: usize) -> io::Result
     println!(rt; "{targets} targets, one decoy, line {line} at one in 20: {answer}")
 }
 
-// "20 targets, one decoy at one in 20: line 20, 20 targets."
-fn targets_20(rt: &impl Print) -> io::Result<()> {
-    line_at_one_in_20(rt, &one_decoy_at::<21>(20), 20)
-}
-
-// "19 targets: line 0."
-fn targets_19(rt: &impl Print) -> io::Result<()> {
-    line_at_one_in_20(rt, &one_decoy_at::<20>(19), 0)
-}
-
-// "40 targets, one decoy: line 41, 40 targets."
-fn targets_40(rt: &impl Print) -> io::Result<()> {
+// "20 targets, one decoy at one in 20: line 20, 20 targets." "19 targets: line 0." "40 targets, one decoy: line 41, 40
+// targets."
+fn lines_at_one_in_20(rt: &impl Print) -> io::Result<()> {
+    line_at_one_in_20(rt, &one_decoy_at::<21>(20), 20)?;
+    line_at_one_in_20(rt, &one_decoy_at::<20>(19), 0)?;
     line_at_one_in_20(rt, &one_decoy_at::<41>(40), 41)
 }
 
@@ -447,9 +440,7 @@ fn main(rt: HostRuntime) -> io::Result<()> {
     targets_100(&rt)?;
     targets_99(&rt)?;
     targets_200(&rt)?;
-    targets_20(&rt)?;
-    targets_19(&rt)?;
-    targets_40(&rt)?;
+    lines_at_one_in_20(&rt)?;
     precursors_20(&rt)?;
     order_of_four(&rt)?;
     checked_spectra(&rt)?;

@@ -21,6 +21,10 @@ use Rattle.line_check.specs.declared.Counts.{Counts}
 
 -- ---- the counts at a row, as a struct
 
+pub counts_at_lem : {labels : List ℤ} {i decoy target : ℕ} (row : ℕ) → Tally labels i decoy target → i ≡ row
+    → ◌≡◌ {A = Counts} (record { row = row; decoys_plus_one = decoy; targets = target }) (counts_at labels row)
+counts_at_lem row t e = rw (← e, t.decoy_is, t.target_is)
+
 pub decoys_small : (labels : List ℤ) {c : Counts} (row : ℕ) → row ≤ length labels → c ≡ counts_at labels row
     → length labels ≤ 16777215 → c.decoys_plus_one ≤ 16777216
 decoys_small labels row h e s = omega (arith, ap (λ (x : Counts). x.decoys_plus_one) e, row_counts row labels)
@@ -71,7 +75,7 @@ module _ {per : ℕ} {labels : List ℤ} {line : ℕ} {last so_far : Counts} {i 
     next = record { row = i + 1; decoys_plus_one = decoy; targets = target }
 
     next_is : next ≡ counts_at labels (i + 1)
-    next_is = rw (t.decoy_is, t.target_is)
+    next_is = counts_at_lem (i + 1) t refl
 
     -- the next row does not qualify
     pub later_passed : target < per * decoy → Later per labels line last next (i + 1)

@@ -1,21 +1,31 @@
 -- A label's class, as the code finds it without a branch, and the counts of both classes.
-use mathlib.Core.Path.{◌≡◌, ap, ◌∙◌}
+use mathlib.Core.Path.{◌≡◌, refl, ap, ◌∙◌}
 use mathlib.Core.List.{List}
-use mathlib.Core.Bool.{Bool, true, false, cond}
+use mathlib.Core.Bool.{Bool, true, false, not, cond}
 use Prim.Native.Nat.{ℕ, ◌-◌, ◌^◌, ◌≤◌, ◌<◌}
 use native.Mathlib.Omega.{arith}
+use lib.Dec.{eqb}
 use lib.IntN.{ℤ, pos}
 use lib.Signed.{mag}
 use lib.ListN.{length, get_or, set}
 use lib.Ieee.{Float}
 use mir.Syntax.{w32}
-use mir.Val.{of_z, to_z}
+use mir.Val.{of_z, to_z, bool_byte}
 use mir.ValLaws.{to_z-of_z}
 use Rattle.counting.specs.Labels.{is_decoy, decoys, targets}
 use Rattle.counting.proofs.Labels.{decoys_and_targets}
+use Rattle.counting.proofs.Tally.{label_test}
 use Rattle.gauss.specs.Elimination.{Matrix, row}
 use Rattle.linear_discriminant.specs.Fit.{class_of}
 use Rattle.linear_discriminant.specs.Inner.Passes.{added_row, sum_row}
+
+-- a label's class by the test of its bits
+pub class_of_lem : (l : ℤ) → mag l < 2 ^ 31 → bool_byte (not (eqb (of_z w32 l) 4294967295)) ≡ class_of l
+class_of_lem l f = rw (label_test l f) (go (is_decoy l))
+  where
+    go : (b : Bool) → bool_byte (not b) ≡ cond b 0 1
+    go true = refl
+    go false = refl
 
 pub class_small : (l : ℤ) → class_of l < 2
 class_small l = go (is_decoy l)

@@ -25,12 +25,9 @@ pub fn train(features: &[f64], labels: &[i32]) -> Result<[f64; 20], Refusal>
 fn ask(features: usize, labels: usize, decoys: usize, targets: usize) -> Result<(), Refusal>
     ensures { result ≡ train_asked features labels decoys targets }
 {
-    if !((labels <= columns::LONGEST) & (features <= crate::LONGEST_FEATURES)) {
-        return Err(Refusal::TooLong);
-    }
-    if !crate::twenty_each(features, labels) {
-        return Err(Refusal::WrongLength);
-    }
+    let short = (labels <= columns::LONGEST) & (features <= crate::LONGEST_FEATURES);
+    let fits = crate::twenty_each(features, labels);
+    columns::ask_lengths(short, fits)?;
     if !((1 <= decoys) & (1 <= targets)) {
         return Err(Refusal::OneClass);
     }

@@ -31,17 +31,13 @@ pub fn score_rows(
         let run = scored_rows coefficients.now features.now in
         after ≡ run scores.old narrowed.old }
 {
-    match ask(coefficients, features.len(), scores.len(), narrowed.len()) {
-        Err(refusal) => {
-            columns::blank(scores);
-            columns::blank(narrowed);
-            Err(refusal)
-        }
-        Ok(()) => {
-            score_all(coefficients, features, scores, narrowed);
-            Ok(())
-        }
+    if let Err(refusal) = ask(coefficients, features.len(), scores.len(), narrowed.len()) {
+        columns::blank(scores);
+        columns::blank(narrowed);
+        return Err(refusal);
     }
+    score_all(coefficients, features, scores, narrowed);
+    Ok(())
 }
 
 // Questions 1, 2 and 8.
@@ -53,12 +49,9 @@ fn ask(
 ) -> Result<(), Refusal>
     ensures { result ≡ score_rows_asked coefficients.now features scores narrowed }
 {
-    if features > crate::LONGEST_FEATURES {
-        return Err(Refusal::TooLong);
-    }
-    if !(crate::twenty_each(features, scores) & (narrowed == scores)) {
-        return Err(Refusal::WrongLength);
-    }
+    let short = features <= crate::LONGEST_FEATURES;
+    let fits = crate::twenty_each(features, scores) & (narrowed == scores);
+    columns::ask_lengths(short, fits)?;
     if !all_finite(coefficients) {
         return Err(Refusal::NotFinite);
     }
@@ -69,12 +62,7 @@ fn ask(
 fn all_finite(coefficients: &[f64; 20]) -> bool
     ensures { result ≡ all_finite coefficients.now }
 {
-    for x in coefficients {
-        if !x.is_finite() {
-            return false;
-        }
-    }
-    true
+    coefficients.iter().all(|x| x.is_finite())
 }
 
 // Every row's score, and the score narrowed, block by block: 128 rows stay in cache while their scores are narrowed.

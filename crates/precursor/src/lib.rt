@@ -17,14 +17,8 @@ fn ask(labels: usize, scores: usize, keys: usize, spare: usize, q: usize) -> Res
     ensures { result ≡ precursor_asked labels scores keys spare q }
 {
     let short = (labels <= columns::LONGEST) & (scores <= columns::LONGEST);
-    if !short {
-        return Err(Refusal::TooLong);
-    }
-    let one_per_row = (scores == labels) & ((keys == labels) & ((spare == labels) & (q == labels)));
-    if !one_per_row {
-        return Err(Refusal::WrongLength);
-    }
-    Ok(())
+    let fits = (scores == labels) & ((keys == labels) & ((spare == labels) & (q == labels)));
+    columns::ask_lengths(short, fits)
 }
 
 // Q-values of precursors, at their original places, and how many targets have one of at most 0.05. The rows are ranked
@@ -40,38 +34,29 @@ pub fn picked_precursor(
         let run = picked_precursor labels.now scores.now in
         after ≡ run keys.old spare.old q.old }
 {
-    match ask(labels.len(), scores.len(), keys.len(), spare.len(), q.len()) {
-        Err(refusal) => {
-            columns::clear(keys, spare);
-            columns::blank(q);
-            Err(refusal)
-        }
-        Ok(()) => {
-            let decoy_at = |place: usize|
-                requires { place < length labels.now }
-                ensures { result ≡ is_decoy (get_or labels.entry.now place (pos 0)) }
-            { labels[place] == -1 };
-            packing::pack(scores, decoy_at, keys);
-            ranking::sort(keys, spare);
-            let passing = passes::assign_q_value(keys, q);
-            columns::clear(keys, spare);
-            Ok(passing)
-        }
+    if let Err(refusal) = ask(labels.len(), scores.len(), keys.len(), spare.len(), q.len()) {
+        columns::clear(keys, spare);
+        columns::blank(q);
+        return Err(refusal);
     }
+    let decoy_at = |place: usize|
+        requires { place < length labels.now }
+        ensures { result ≡ is_decoy (get_or labels.entry.now place (pos 0)) }
+    { labels[place] == -1 };
+    packing::pack(scores, decoy_at, keys);
+    ranking::sort(keys, spare);
+    let passing = passes::assign_q_value(keys, q);
+    columns::clear(keys, spare);
+    Ok(passing)
 }
 
 // Questions 1 and 2.
 fn ask_order(scores: usize, keys: usize, spare: usize, order: usize) -> Result<(), Refusal>
     ensures { result ≡ order_asked scores keys spare order }
 {
-    if columns::LONGEST < scores {
-        return Err(Refusal::TooLong);
-    }
-    let one_per_row = (keys == scores) & ((spare == scores) & (order == scores));
-    if !one_per_row {
-        return Err(Refusal::WrongLength);
-    }
-    Ok(())
+    let short = scores <= columns::LONGEST;
+    let fits = (keys == scores) & ((spare == scores) & (order == scores));
+    columns::ask_lengths(short, fits)
 }
 
 // At each rank the place, from 0, of the precursor that picked_precursor ranks there: a line of a precursor list counts
@@ -86,18 +71,14 @@ pub fn precursor_order(
         let run = precursor_order scores.now in
         after ≡ run keys.old spare.old order.old }
 {
-    match ask_order(scores.len(), keys.len(), spare.len(), order.len()) {
-        Err(refusal) => {
-            columns::clear(keys, spare);
-            columns::blank(order);
-            Err(refusal)
-        }
-        Ok(()) => {
-            packing::pack(scores, |_| false, keys);
-            ranking::sort(keys, spare);
-            passes::write_order(keys, order);
-            columns::clear(keys, spare);
-            Ok(())
-        }
+    if let Err(refusal) = ask_order(scores.len(), keys.len(), spare.len(), order.len()) {
+        columns::clear(keys, spare);
+        columns::blank(order);
+        return Err(refusal);
     }
+    packing::pack(scores, |_| false, keys);
+    ranking::sort(keys, spare);
+    passes::write_order(keys, order);
+    columns::clear(keys, spare);
+    Ok(())
 }

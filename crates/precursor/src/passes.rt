@@ -8,7 +8,7 @@ ghost use Rattle.counting.specs.QValues.{q_values, targets_at_most};
 ghost use Rattle.ranking.specs.Inner.Layout.{place_of, label_of};
 ghost use Rattle.ranking.specs.Inner.Rows.{scattered};
 
-// How many keys are of decoys.
+// How many keys are of decoys. The bit of each is added, so that no key takes a branch.
 fn count_decoys(keys: &[u64]) -> u32
     requires { length keys.now ≤ longest }
     ensures { result ≡ decoys (map label_of keys.now) }

@@ -1,7 +1,7 @@
 // Replays recorded answers of the Rust's Builder::build and Estimator::posterior_error. data/README.md has the layout.
 #![tactic(auto)]
 
-use kde::{Builder, Estimator};
+use kde::{Builder, Densities, Estimator};
 use replay::Recording;
 use std::alloc::{AllocError, Global};
 use std::io;
@@ -39,7 +39,11 @@ fn same_bins(
     let decoy = recording.read_column::<f64>(alloc, builder.bins)?;
     let target = recording.read_column::<f64>(alloc, builder.bins)?;
     let mut bins = vec![in alloc; 9.0f64; builder.bins]?;
-    let answer = kde::posterior_bins(builder, labels, &decoy, &target, &mut bins);
+    let densities = Densities {
+        decoy: &decoy,
+        target: &target,
+    };
+    let answer = kde::posterior_bins(builder, labels, &densities, &mut bins);
     Ok(recording.same_column(&bins) & answer.is_ok())
 }
 

@@ -8,7 +8,8 @@ use std::io;
 // No recorded list has more rows.
 const MOST_ROWS: usize = 60;
 
-// Whether the fit of the next list has the recorded coefficients, or the recorded refusal.
+// Whether the fit of the next list has the recorded coefficients, or the recorded refusal, after which C gets twenty
+// NaN.
 fn same_fit(alloc: Global, recording: &mut Recording<'_>) -> Result<bool, AllocError> {
     let rows = recording.read_length();
     if rows > MOST_ROWS {
@@ -20,7 +21,9 @@ fn same_fit(alloc: Global, recording: &mut Recording<'_>) -> Result<bool, AllocE
     let answer = linear_discriminant::train(&features, &labels);
     let same_number = columns::answer_number(&answer) == recorded;
     if recorded != 0 {
-        return Ok(same_number);
+        let mut values = [9.0f64; 20];
+        columns::blank(&mut values);
+        return Ok(replay::holds_only(&values, f64::NAN) & same_number);
     }
     let coefficients = answer.unwrap_or([f64::NAN; 20]);
     Ok(recording.same_column(&coefficients) & same_number)

@@ -9,7 +9,7 @@ ghost use Rattle.kde.specs.LogErrors.{log_error, log_errors};
 ghost use Rattle.vayemuku.specs.Numbers.{builder_of, tolerance_of};
 
 use columns::HasBlank;
-use kde::{Builder, Estimator, Tolerance};
+use kde::{Builder, Densities, Estimator, Tolerance};
 
 // How many bins sage's builder starts with.
 #[unsafe(no_mangle)]
@@ -59,13 +59,11 @@ pub extern "C" fn vayemuku_posterior_bins(
         result and bins.new ≡ answer_number run.answer and run.column }
 {
     let builder = Builder::default().monotonic(monotonic != 0).bins(bin_count);
-    columns::answer_number(&kde::posterior_bins(
-        builder,
-        labels,
-        decoy_density,
-        target_density,
-        bins,
-    ))
+    let densities = Densities {
+        decoy: decoy_density,
+        target: target_density,
+    };
+    columns::answer_number(&kde::posterior_bins(builder, labels, &densities, bins))
 }
 
 // Step two, over a competition's slots.
@@ -85,13 +83,11 @@ pub extern "C" fn vayemuku_slot_posterior_bins(
         result and bins.new ≡ answer_number run.answer and run.column }
 {
     let builder = Builder::default().monotonic(monotonic != 0).bins(bin_count);
-    columns::answer_number(&kde::slot_posterior_bins(
-        builder,
-        is_decoy,
-        decoy_density,
-        target_density,
-        bins,
-    ))
+    let densities = Densities {
+        decoy: decoy_density,
+        target: target_density,
+    };
+    columns::answer_number(&kde::slot_posterior_bins(builder, is_decoy, &densities, bins))
 }
 
 // `error` gets the posterior error of a score, or NaN.

@@ -5,7 +5,7 @@ use Rattle.fdr.proofs.Questions.{assign_ready}
 use Rattle.fdr.proofs.assign_q_value.Goals as goal
 
 pub assigned-requires : goal.assigned-requires
-assigned-requires c = assign_ready _ _ _ _ _ _ _ (sym c.ask.ensures ∙ c.in-Ok.is)
+assigned-requires c = assign_ready _ _ _ _ _ _ _ (sym c.ask.ensures ∙ c.in_default.is)
 
 pub returns-in-Err : goal.returns-in-Err
 unfolding assign_q_value
@@ -13,8 +13,8 @@ returns-in-Err c =
     let w = c.clear.ensures in
     rw (w.keys, w.spare, c.blank.ensures, ← c.ask.ensures, c.in-Err.is)
 
-pub returns-in-Ok : goal.returns-in-Ok
+pub returns : goal.returns
 unfolding assign_q_value
-returns-in-Ok c =
+returns c =
     let w = c.assigned.ensures in
-    rw (w.count, w.column, w.keys, w.spare, ← c.ask.ensures, c.in-Ok.is)
+    rw (w.count, w.column, w.keys, w.spare, ← c.ask.ensures, c.in_default.is)

@@ -3,11 +3,12 @@
 use Rattle.std.specs.Prelude.{List, ◌≡◌, ℕ, ◌≤◌, length, Float}
 use Rattle.columns.specs.Refusals.{longest}
 use Rattle.kde.specs.declared.Builder.{Builder}
+use Rattle.kde.specs.Bins.{Densities}
 
-pub record BinsReady (builder : Builder) (decoys total : ℕ) (decoys_at targets_at bins : List Float) : Type 0 where
+pub record BinsReady (builder : Builder) (decoys total : ℕ) (densities : Densities) (bins : List Float) : Type 0 where
   pub some : 1 ≤ builder.bins
-  pub decoy_length : length decoys_at ≡ builder.bins
-  pub target_length : length targets_at ≡ builder.bins
+  pub decoy_length : length densities.decoy ≡ builder.bins
+  pub target_length : length densities.target ≡ builder.bins
   pub bins_length : length bins ≡ builder.bins
   pub decoys_few : decoys ≤ total
   pub total_few : total ≤ longest

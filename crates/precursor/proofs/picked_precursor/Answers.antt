@@ -1,7 +1,6 @@
 -- `precursor::picked_precursor` meets its contract: the questions' answer picks what is answered and left (`picked`).
 use borrow.Author.Rules.{rules}
 use mathlib.Core.Path.{refl, sym, ap, ◌∙◌}
-use Rattle.columns.proofs.Questions.{if_accepted, if_refused}
 use Rattle.ranking.specs.Sorted.{sorted}
 use Rattle.precursor.specs.Precursors.{picked_precursor}
 use Rattle.precursor.proofs.Questions.{precursor_lengths}
@@ -15,21 +14,20 @@ assign_q_value-passing-requires c =
     record {
       keys_len_bound = search rules;
       places_in_bounds = places_asked a.labels.now a.scores.now a.keys.now a.spare.now
-          (precursor_lengths _ _ _ _ _ (sym c.ask.ensures ∙ c.in-Ok.is)).1 _
+          (precursor_lengths _ _ _ _ _ (sym c.ask.ensures ∙ c.in_default.is)).1 _
           (c.sort.ensures.keys ∙ ap sorted (keyed_rows a.labels.now (λ place decoy h t. search rules) c.pack.ensures));
     }
 
 pub returns-in-Err : goal.returns-in-Err
 unfolding picked_precursor
 returns-in-Err c =
-    rw (c.clear.ensures.keys, c.clear.ensures.spare, c.blank.ensures) (sym (if_refused _ _ (sym c.ask.ensures ∙ c.in-Err.is)))
+    rw (c.clear.ensures.keys, c.clear.ensures.spare, c.blank.ensures, ← c.ask.ensures, c.in-Err.is)
 
-pub returns-in-Ok : goal.returns-in-Ok
+pub returns : goal.returns
 unfolding picked_precursor
-returns-in-Ok c =
+returns c =
     let a = c.args in
-    let m = precursor_lengths _ _ _ _ _ (sym c.ask.ensures ∙ c.in-Ok.is) in
-    rw (c.clear-in-Ok.ensures.keys, c.clear-in-Ok.ensures.spare)
+    let m = precursor_lengths _ _ _ _ _ (sym c.ask.ensures ∙ c.in_default.is) in
+    rw (c.clear-2.ensures.keys, c.clear-2.ensures.spare, ← c.ask.ensures, c.in_default.is)
     (picked a.labels.now a.scores.now a.keys.now a.spare.now m.1 _ (c.sort.ensures.keys ∙ ap sorted (keyed_rows a.labels.now (λ place decoy h t. search rules) c.pack.ensures)) a.q.now refl m.0
-    _ _ c.sort.new.spare c.assign_q_value-passing.ensures.count c.assign_q_value-passing.ensures.column c.sort.ensures.spare
-    ∙ sym (if_accepted _ _ (sym c.ask.ensures ∙ c.in-Ok.is)))
+    _ _ c.sort.new.spare c.assign_q_value-passing.ensures.count c.assign_q_value-passing.ensures.column c.sort.ensures.spare)

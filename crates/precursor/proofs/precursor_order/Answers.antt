@@ -2,7 +2,6 @@
 use borrow.Author.Rules.{rules}
 use mathlib.Core.Path.{sym, ap, ◌∙◌}
 use mathlib.Core.List.{[]}
-use Rattle.columns.proofs.Questions.{if_accepted, if_refused}
 use Rattle.ranking.specs.Sorted.{sorted}
 use Rattle.precursor.specs.Precursors.{precursor_order}
 use Rattle.precursor.proofs.Questions.{order_lengths}
@@ -13,14 +12,12 @@ use Rattle.precursor.proofs.precursor_order.Goals as goal
 pub returns-in-Err : goal.returns-in-Err
 unfolding precursor_order
 returns-in-Err c =
-    rw (c.clear.ensures.keys, c.clear.ensures.spare, c.blank.ensures)
-    (sym (if_refused _ _ (sym c.ask_order.ensures ∙ c.in-Err.is)))
+    rw (c.clear.ensures.keys, c.clear.ensures.spare, c.blank.ensures, ← c.ask_order.ensures, c.in-Err.is)
 
-pub returns-in-Ok : goal.returns-in-Ok
+pub returns : goal.returns
 unfolding precursor_order
-returns-in-Ok c =
+returns c =
     let a = c.args in
-    rw (c.clear-in-Ok.ensures.keys, c.clear-in-Ok.ensures.spare)
-    (ordered [] a.scores.now a.keys.now a.spare.now (order_lengths _ _ _ _ (sym c.ask_order.ensures ∙ c.in-Ok.is)) _ (c.sort.ensures.keys ∙ ap sorted (keyed_rows [] (λ place decoy h t. search rules) c.pack.ensures))
-    _ c.sort.new.spare c.write_order.ensures c.sort.ensures.spare
-    ∙ sym (if_accepted _ _ (sym c.ask_order.ensures ∙ c.in-Ok.is)))
+    rw (c.clear-2.ensures.keys, c.clear-2.ensures.spare, ← c.ask_order.ensures, c.in_default.is)
+    (ordered [] a.scores.now a.keys.now a.spare.now (order_lengths _ _ _ _ (sym c.ask_order.ensures ∙ c.in_default.is)) _ (c.sort.ensures.keys ∙ ap sorted (keyed_rows [] (λ place decoy h t. search rules) c.pack.ensures))
+    _ c.sort.new.spare c.write_order.ensures c.sort.ensures.spare)

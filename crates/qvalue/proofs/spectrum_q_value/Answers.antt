@@ -2,16 +2,15 @@
 use mathlib.Core.Path.{sym, ap, ◌∙◌}
 use lib.ListN.{length}
 use Rattle.counting.specs.QValues.{q_values}
-use Rattle.columns.proofs.Questions.{if_accepted, given_back, kept}
-use Rattle.qvalue.specs.Spectrum.{spectrum_q_value}
+use Rattle.columns.proofs.Questions.{if_accepted, refused_run, kept}
+use Rattle.qvalue.specs.Spectrum.{spectrum_run, spectrum_q_value}
 use Rattle.qvalue.proofs.Questions.{spectrum_lengths}
 use Rattle.qvalue.proofs.spectrum_q_value.Goals as goal
 
 pub returns-in_err-or_blank : goal.returns-in_err-or_blank
 unfolding spectrum_q_value
 returns-in_err-or_blank c =
-    let p = given_back _ c.ask-asked.ensures c.or_blank.ensures.answer c.in_err-or_blank.was c.from_residual.ensures.1 in
-    rw (p.1, c.or_blank.ensures.column, c.ask-asked.ensures, p.0)
+    refused_run spectrum_run _ _ _ c.ask-asked.ensures c.or_blank.ensures.answer c.in_err-or_blank.was c.from_residual.ensures.1 c.or_blank.ensures.column
 
 pub write_ratios-requires : goal.write_ratios-requires
 write_ratios-requires c =

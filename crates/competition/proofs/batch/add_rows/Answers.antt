@@ -1,8 +1,12 @@
--- `competition::add_rows` meets its contract: the questions' answer picks what is answered and left.
-use mathlib.Core.Path.{sym, ◌∙◌}
+-- `competition::add_rows` meets its contract: the questions' answer picks what is answered and left, and a turn is a
+-- row's step on the table (`Adding`).
+use mathlib.Core.Path.{ap, sym, ◌∙◌}
+use lib.ListN.{get_or}
+use borrow.Author.Rules.{rules}
 use Rattle.std.proofs.lemmas.Result.{err_from_is_err_and}
 use Rattle.competition.specs.Batches.{add_rows}
 use Rattle.competition.proofs.Questions.{batch_ready}
+use Rattle.competition.proofs.RowSteps.{adding_row, adding_step, adding_done}
 use Rattle.competition.proofs.batch.add_rows.Goals as goal
 
 pub returns-in_err-ask_batch : goal.returns-in_err-ask_batch
@@ -12,13 +16,20 @@ returns-in_err-ask_batch c =
     let asked = rw c.read.ensures at c.ask_batch.ensures in
     rw (p.1, p.2, ← asked, c.in_err-ask_batch.was)
 
-pub add_all-requires : goal.add_all-requires
-add_all-requires c =
+pub add_row-requires : goal.add_row-requires
+add_row-requires c =
     let asked = rw c.read.ensures at c.ask_batch.ensures in
-    batch_ready _ _ (sym asked ∙ c.in_ok-ask_batch.was)
+    rw (ap (λ b. get_or b.slots c.loop-i.i 0) c.batch.view_is)
+    (adding_row (batch_ready _ _ (sym asked ∙ c.in_ok-ask_batch.was)) c.loop-i.invariant (rw (← c.batch.view_is) (search rules)))
+
+pub loop-i-preserved : goal.loop-i-preserved
+loop-i-preserved c =
+    let asked = rw c.read.ensures at c.ask_batch.ensures in
+    adding_step (batch_ready _ _ (sym asked ∙ c.in_ok-ask_batch.was)) c.loop-i.invariant (rw (← c.batch.view_is) (search rules))
+    (rw (← c.batch.view_is) (search rules)) (rw (← c.batch.view_is) c.add_row.ensures)
 
 pub returns : goal.returns
 unfolding add_rows
 returns c =
     let asked = rw c.read.ensures at c.ask_batch.ensures in
-    rw (c.add_all.ensures, ← asked, c.in_ok-ask_batch.was)
+    rw (adding_done (batch_ready _ _ (sym asked ∙ c.in_ok-ask_batch.was)) c.loop-i.invariant (rw (← c.batch.view_is) (search rules)), ← asked, c.in_ok-ask_batch.was)

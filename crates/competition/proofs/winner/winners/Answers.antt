@@ -5,14 +5,14 @@ use Rattle.competition.proofs.Questions.{winners_ready}
 use Rattle.competition.proofs.winner.winners.Goals as goal
 
 pub write_winners-requires : goal.write_winners-requires
-write_winners-requires c = winners_ready _ _ _ (sym c.ask_winners.ensures ∙ c.in-Ok.is)
+write_winners-requires c = winners_ready _ _ _ (sym c.ask_winners.ensures ∙ c.in_default.is)
 
 pub returns-in-Err : goal.returns-in-Err
 unfolding winners
 returns-in-Err c =
     rw (c.blank.ensures, c.blank-in-Err.ensures, ← c.ask_winners.ensures, c.in-Err.is)
 
-pub returns-in-Ok : goal.returns-in-Ok
+pub returns : goal.returns
 unfolding winners
-returns-in-Ok c =
-    rw (c.write_winners.ensures.scores, c.write_winners.ensures.flags, ← c.ask_winners.ensures, c.in-Ok.is)
+returns c =
+    rw (c.write_winners.ensures.scores, c.write_winners.ensures.flags, ← c.ask_winners.ensures, c.in_default.is)

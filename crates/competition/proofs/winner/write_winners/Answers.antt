@@ -7,12 +7,13 @@ use Rattle.competition.proofs.winner.write_winners.Goals as goal
 
 pub loop-slot-preserved-then-not-is_seen : goal.loop-slot-preserved-then-not-is_seen
 loop-slot-preserved-then-not-is_seen c =
-    slotwise_unseen c.loop-slot.invariant (search rules)
-    (rw (c.is_seen.ensures, c.is_seen-in-loop-slot.ensures, ← c.table.view_is)) (ap not c.if-not-is_seen.true)
+    rw (c.blank.ensures, c.blank-in-loop-slot.ensures)
+    (slotwise_unseen c.loop-slot.invariant (search rules)
+    (rw (c.is_seen.ensures, c.is_seen-in-loop-slot.ensures, ← c.table.view_is)) (ap not c.if-not-is_seen.true))
 
 pub loop-slot-preserved : goal.loop-slot-preserved
 loop-slot-preserved c =
-    rw c.from.ensures
+    rw (c.blank.ensures, c.blank-in-loop-slot.ensures, c.from.ensures)
     (slotwise_seen c.loop-slot.invariant (search rules)
     (rw (c.is_seen.ensures, c.is_seen-in-loop-slot.ensures, ← c.table.view_is)) (ap not c.if-not-is_seen.false) _
     (rw (c.score.ensures, ← c.table.view_is)) (rw (c.is_decoy.ensures, ← c.table.view_is)))

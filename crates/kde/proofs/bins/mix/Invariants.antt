@@ -7,5 +7,5 @@ use Rattle.kde.specs.Bins.{posterior_bin}
 use Rattle.kde.proofs.bins.mix.Given as goal
 
 abbrev pub invariant-loop-bin : goal.invariant-loop-bin
-invariant-loop-bin l = Writing (posterior_bin l.pi l.decoy_density l.target_density) nan
+invariant-loop-bin l = Writing (posterior_bin l.pi l.densities.decoy l.densities.target) nan
     (length l.initial.bins) l.bins l.bin

@@ -8,9 +8,8 @@ use lib.Dec.{eqb, eqb→eq}
 use lib.ListN.{length}
 use Rattle.folds.specs.Lists.{how_many}
 use Rattle.folds.proofs.Folds.{counts_le}
-use Rattle.columns.proofs.Questions.{if_accepted}
-use Rattle.kde.specs.Bins.{built_bins, slot_bins}
-use Rattle.columns.proofs.Questions.{given_back, kept}
+use Rattle.columns.proofs.Questions.{if_accepted, kept, refused_run}
+use Rattle.kde.specs.Bins.{column_run, built_bins, slot_bins}
 use Rattle.kde.proofs.Questions.{bins_passed}
 use Rattle.kde.proofs.bins.slot_posterior_bins.Goals as goal
 
@@ -20,8 +19,7 @@ slots_le = counts_le (λ (n : ℕ). eqb n 1) (λ (n : ℕ). eqb n 0) (λ n t u. 
 pub returns-in_err-ask_bins : goal.returns-in_err-ask_bins
 unfolding slot_bins built_bins
 returns-in_err-ask_bins c =
-    let p = given_back _ c.ask_bins.ensures.answer refl c.in_err-ask_bins.was c.from_residual.ensures.1 in
-    rw (p.1, c.ask_bins.ensures.column, c.ask_bins.ensures.answer, p.0)
+    refused_run column_run _ _ _ c.ask_bins.ensures.answer refl c.in_err-ask_bins.was c.from_residual.ensures.1 c.ask_bins.ensures.column
 
 pub overflow_add-total : goal.overflow_add-total
 overflow_add-total c =
@@ -36,7 +34,7 @@ build_bins-requires c =
     let some : decoys ≤ total = omega arith in
     let few : total ≤ length flags = omega (arith, c.how_many-decoys.ensures, c.how_many.ensures, slots_le flags) in
     let e = c.in_ok-ask_bins.was in
-    rw (kept _ _ c.ask_bins.ensures.column e) (bins_passed _ _ _ _ _ _ _ (sym c.ask_bins.ensures.answer ∙ e) some few)
+    rw (kept _ _ c.ask_bins.ensures.column e) (bins_passed _ _ _ _ _ _ (sym c.ask_bins.ensures.answer ∙ e) some few)
 
 pub returns : goal.returns
 unfolding slot_bins built_bins

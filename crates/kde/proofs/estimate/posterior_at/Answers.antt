@@ -1,7 +1,7 @@
--- `kde::estimate::posterior_at` meets its contract: its two bins are the definition's by the contracts of `lower_bin`
--- and `upper_bin`, and the rest is the definition's own operations.
+-- `kde::estimate::posterior_at` meets its contract: its lower bin is the definition's by the contract of `lower_bin`,
+-- and the rest is the definition's own operations.
 use Rattle.kde.proofs.Steps.{posterior_by}
 use Rattle.kde.proofs.estimate.posterior_at.Goals as goal
 
 pub returns : goal.returns
-returns c = posterior_by _ _ _ _ _ c.lower_bin-bin_lo.ensures c.upper_bin-bin_hi.ensures
+returns c = posterior_by _ _ _ _ _ c.lower_bin-bin_lo.ensures c.min-bin_hi.ensures

@@ -1,15 +1,14 @@
 -- `kde::logs::log_errors` meets its contract: the questions' answer picks what the call leaves.
 use mathlib.Core.Path.{sym, ◌∙◌}
-use Rattle.columns.proofs.Questions.{if_accepted}
+use Rattle.columns.proofs.Questions.{if_accepted, refused_run}
+use Rattle.kde.specs.Bins.{column_run}
 use Rattle.kde.specs.LogErrors.{log_error, log_errors}
-use Rattle.columns.proofs.Questions.{given_back}
 use Rattle.kde.proofs.logs.log_errors.Goals as goal
 
 pub returns-in_err-or_blank : goal.returns-in_err-or_blank
 unfolding log_errors
 returns-in_err-or_blank c =
-    let p = given_back _ c.ask-asked.ensures c.or_blank.ensures.answer c.in_err-or_blank.was c.from_residual.ensures.1 in
-    rw (p.1, c.or_blank.ensures.column, c.ask-asked.ensures, p.0)
+    refused_run column_run _ _ _ c.ask-asked.ensures c.or_blank.ensures.answer c.in_err-or_blank.was c.from_residual.ensures.1 c.or_blank.ensures.column
 
 pub returns : goal.returns
 unfolding log_errors

@@ -15,8 +15,8 @@ count c =
     c.to_usize-bins.ensures
     ∙ ap (to_unsigned 64) (c.ceil.ensures ∙ ap (ceiled binary32) c.max.ensures)
 
-pub returns-then-in_range : goal.returns-then-in_range
-returns-then-in_range c = rw (← (count c.before.before), ← c.in_range.ensures, c.if-in_range.true)
+pub returns-then-not-in_range : goal.returns-then-not-in_range
+returns-then-not-in_range c = rw (← (count c.before.before), ← c.in_range.ensures, c.if-not-in_range.true)
 
 pub returns : goal.returns
-returns c = rw (← (count c.before.before), ← c.in_range.ensures, c.if-in_range.false)
+returns c = rw (← (count c.before.before), ← c.in_range.ensures, c.if-not-in_range.false)

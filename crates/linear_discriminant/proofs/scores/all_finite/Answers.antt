@@ -1,30 +1,15 @@
--- `linear_discriminant::scores::all_finite` meets its contract: every coefficient before this one is finite
--- (`Passing`).
-use mathlib.Core.Path.{sym, ◌∙◌}
-use lib.ListN.{get_or}
-use lib.Ieee.{nan}
-use Rattle.folds.proofs.Walks.{passing_start, passing_step, passing_done, failing}
+-- `linear_discriminant::scores::all_finite` meets its contract: the library's `all` answers for each coefficient.
+use mathlib.Core.Path.{◌∙◌}
 use borrow.Author.Rules.{rules}
-use Rattle.linear_discriminant.specs.Scores.{is_finite, all_finite}
-use Rattle.linear_discriminant.proofs.Coefficients.{finite_is}
+use borrow.Author.Tests.{tests}
+use Rattle.std.specs.Float.{float_is_finite}
+use Rattle.std.proofs.lemmas.Iterator.{YieldsList-from_slice}
+use Rattle.std.proofs.lemmas.Iterator.Search.{all_from_yields_List}
+use Rattle.linear_discriminant.proofs.Coefficients.{all_finite_is}
 use Rattle.linear_discriminant.proofs.scores.all_finite.Goals as goal
 
-pub loop-x-init : goal.loop-x-init
-loop-x-init c = passing_start
-
-pub returns-then-not-is_finite : goal.returns-then-not-is_finite
-unfolding all_finite
-returns-then-not-is_finite c =
-    let w = c.args.coefficients.now in
-    let infinite = sym (finite_is (get_or w c.loop-x.x-index nan)) ∙ sym c.is_finite.ensures.value ∙ c.if-not-is_finite.true in
-    sym (failing (λ j. is_finite (get_or w j nan)) (search rules) infinite)
-
-pub loop-x-preserved : goal.loop-x-preserved
-loop-x-preserved c =
-    let w = c.args.coefficients.now in
-    let finite = sym (finite_is (get_or w c.loop-x.x-index nan)) ∙ sym c.is_finite.ensures.value ∙ c.if-not-is_finite.false in
-    passing_step c.loop-x.invariant (search rules) finite
-
 pub returns : goal.returns
-unfolding all_finite
-returns c = sym (passing_done c.loop-x.invariant (search rules))
+returns c =
+    all_from_yields_List float_is_finite _ _ _ c.all.ensures.ran (YieldsList-from_slice c.args.coefficients.now cc)
+    (λ x b q k. search (rules, tests))
+    ∙ all_finite_is c.args.coefficients.now c.told-coefficients

@@ -1,7 +1,7 @@
--- `competition::batch::add_all` meets its contract: a turn is a row's step on the table (`Adding`).
+-- `competition::add_rows` meets its contract: a turn is a row's step on the table (`Adding`).
 use Rattle.competition.specs.Tables.{table_of}
 use Rattle.competition.proofs.RowSteps.{Adding}
-use Rattle.competition.proofs.batch.add_all.Given as goal
+use Rattle.competition.proofs.batch.add_rows.Given as goal
 
 abbrev pub invariant-loop-i : goal.invariant-loop-i
 invariant-loop-i l =
