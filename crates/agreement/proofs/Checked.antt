@@ -5,7 +5,7 @@ use Prim.Native.Nat.{ℕ, ◌≤◌}
 use lib.IntN.{ℤ}
 use lib.ListN.{length}
 use lib.Ieee.{Float}
-use Rattle.std.specs.Prelude.{Result, Ok, Err}
+use Rattle.std.specs.Prelude.{Result, Ok}
 use Rattle.columns.specs.Refusals.{longest, ◌and◌}
 use Rattle.columns.specs.declared.Refusal.{Refusal}
 use Rattle.counting.specs.Lines.{RightLine}
@@ -38,13 +38,6 @@ right_at_count labels q count a =
 
 module _ (labels : List ℤ) (q q' : List Float) (r : Result ℕ Refusal)
     (e : spectrum_run r q' ≡ spectrum_q_value labels q) where
-  pub spectra_refused : (refusal : Refusal) → r ≡ Err refusal
-      → Err refusal and q'
-      ≡ right_at labels (spectrum_q_value labels q).answer and (spectrum_q_value labels q).q
-  spectra_refused refusal f =
-      ap₂ (λ (x : Result Line Refusal) (y : List Float). x and y)
-      (ap (right_at labels) (sym f ∙ ap (λ (w : SpectrumRun). w.answer) e)) (ap (λ (w : SpectrumRun). w.q) e)
-
   pub spectra_right : (count : ℕ) (answer : Result Line Refusal) → r ≡ Ok count → answer ≡ line_answer 100 labels count
       → answer and q' ≡ right_at labels (spectrum_q_value labels q).answer and (spectrum_q_value labels q).q
   spectra_right count answer f g =

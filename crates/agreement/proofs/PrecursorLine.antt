@@ -14,7 +14,7 @@ use lib.Ieee.{Float, nan}
 use Rattle.folds.specs.Lists.{filled}
 use Rattle.folds.specs.Inner.All.{All}
 use Rattle.folds.proofs.Tests.{both_true}
-use Rattle.folds.proofs.Writing.{length_tabulated, tabulated_at, map_at, all_at, same_blank}
+use Rattle.folds.proofs.Writing.{tabulated_at, map_at, all_at, same_blank}
 use Rattle.std.specs.Prelude.{Result, Ok, Err, IsOk}
 use Rattle.columns.specs.Refusals.{Asked, longest, RankedRun, ranked_run}
 use Rattle.columns.specs.declared.Refusal.{Refusal}
@@ -174,16 +174,8 @@ module _ (labels : List ℤ) (scores : List Float) (keys spare : List ℕ) (rank
     )
 
   -- the labels and the q-values are read at rows of the list
-  pub reads : (q₁ : List Float) (order₂ : List ℕ) → q₁ ≡ precursor_q labels scores → order₂ ≡ ranked_order scores
-      → ((length q₁ ≡ length labels) × (length ranked ≡ length order₂)) × All (λ row. row < length labels) order₂
-  unfolding precursor_q
-  reads q₁ order₂ e f = (
-    (
-      ap length e ∙ length_tabulated (λ p. get_or (q_values (as_ranked labels scores)) (rank_of (ranked_rows scores) p) nan) 0 (length labels),
-      w.ranked_match ∙ sym w.scores_match ∙ sym (length_order scores) ∙ sym (ap length f),
-    ),
-    rw f (subst (λ (n : ℕ). All (λ row. row < n) (ranked_order scores)) w.scores_match (order_in_bounds scores)),
-  )
+  pub reads : (order₂ : List ℕ) → order₂ ≡ ranked_order scores → All (λ row. row < length labels) order₂
+  reads order₂ f = rw f (subst (λ (n : ℕ). All (λ row. row < n) (ranked_order scores)) w.scores_match (order_in_bounds scores))
 
   -- what is left of each column, and the answer
   pub checked_is : (q₁ : List Float) (keys₂ spare₂ order₂ : List ℕ) (ranked₁ ranked₂ : List ℤ) (line : ℕ)

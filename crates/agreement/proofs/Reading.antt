@@ -15,8 +15,8 @@ use mir.Syntax.{w32}
 use mir.Val.{bool_byte, of_z, to_z}
 use mir.ValLaws.{to_z-of_z}
 use Rattle.folds.specs.Lists.{how_many}
-use Rattle.folds.proofs.Folds.{Counting, counting_start, counting_step, counting_done}
-use Rattle.folds.proofs.Writing.{Writing, writing_start, writing_step, writing_mapped}
+use Rattle.folds.proofs.Folds.{Counting, counting_step, counting_done}
+use Rattle.folds.proofs.Writing.{Writing, writing_step, writing_mapped}
 use Rattle.counting.specs.QValues.{count_at_most}
 
 count_mapped : (c : Float) (read : ℕ → Float) (rows : List ℕ)
@@ -41,9 +41,6 @@ module _ (c : Float) (labels : List ℤ) (q : List Float) (order : List ℕ) whe
   pub record Reading (ranked : List ℤ) (passing i : ℕ) : Type 0 where
     pub ranks : Writing (λ k. label (get_or order k 0)) (pos 0) (length order) ranked i
     pub count : Counting row_passes order i passing
-
-  pub reading_start : (ranked : List ℤ) → length ranked ≡ length order → Reading ranked 0 0
-  reading_start ranked e = record { ranks = writing_start e; count = counting_start row_passes order }
 
   -- a label comes from its 32 bits
   pub reading_step : {ranked : List ℤ} {passing i : ℕ} (b : Bool) → Reading ranked passing i → i < length order

@@ -45,7 +45,8 @@ fn ask(
     columns::ask_lengths(short, fits)
 }
 
-// The labels in ranked order, and how many rows have a q-value of at most 0.05.
+// The labels in ranked order, and how many rows have a q-value of at most 0.05. By index: what is written behind
+// `iter_mut().zip()` is not known to a proof.
 fn read_ranked(labels: &[i32], q: &[f32], order: &[u32], ranked: &mut [i32]) -> usize
     requires q_len { (length q.now ≡ length labels.now) × (length ranked.old ≡ length order.now) }
     requires order_in_bounds { All (λ row. row < length labels.now) order.now }
@@ -87,7 +88,8 @@ fn make_and_check(
 
 // Q-values of precursors at their places, the row at each rank, and the line check's answer at one in 20 for the line
 // after the last ranked row that passes: Right with its counts, or why the list is refused. `keys`, `spare` and
-// `ranked` are working columns, three as the C interface has them.
+// `ranked` are working columns, three as the C interface has them. All columns are parameters and no struct, since they
+// go on to other calls one by one.
 pub fn checked_precursors(
     labels: &[i32],
     scores: &[f64],

@@ -6,19 +6,19 @@ ghost use Rattle.std.specs.Float.{nan};
 ghost use Rattle.folds.specs.Lists.{filled};
 ghost use Rattle.columns.specs.Refusals.{number_of, answer_number, lengths_asked, asked, answered};
 
-// Why a call refuses, in the order of the questions. It prints nothing: C gets its number, and the host has a sentence
-// for each.
+// Why a call refuses, in the order of the questions, each as its question's number. It prints nothing: C gets the
+// number, and the host has a sentence for each.
 #[derive(Clone, Copy, Debug, PartialEq, Eq, Hash)]
 pub enum Refusal {
-    TooLong,
-    WrongLength,
-    OutOfRange,
-    NoTolerance,
-    NoSuchSlot,
-    OneClass,
-    Unsolved,
-    NotFinite,
-    PastTheEnd,
+    TooLong = 1,
+    WrongLength = 2,
+    OutOfRange = 3,
+    NoTolerance = 4,
+    NoSuchSlot = 5,
+    OneClass = 6,
+    Unsolved = 7,
+    NotFinite = 8,
+    PastTheEnd = 9,
 }
 
 // The question's number.
@@ -26,17 +26,7 @@ impl From<Refusal> for u32 {
     ghost from_gives = { λ refusal number. number ≡ number_of refusal };
 
     fn from(refusal: Refusal) -> u32 {
-        match refusal {
-            Refusal::TooLong => 1,
-            Refusal::WrongLength => 2,
-            Refusal::OutOfRange => 3,
-            Refusal::NoTolerance => 4,
-            Refusal::NoSuchSlot => 5,
-            Refusal::OneClass => 6,
-            Refusal::Unsolved => 7,
-            Refusal::NotFinite => 8,
-            Refusal::PastTheEnd => 9,
-        }
+        refusal as u32
     }
 }
 
@@ -133,7 +123,8 @@ pub fn or_blank<T: HasBlank>(asked: Result<(), Refusal>, column: &mut [T]) -> Re
     asked
 }
 
-// The working columns of a call that ranks: "They hold 0 in every place afterwards, accepted or refused."
+// The working columns of a call that ranks: "They hold 0 in every place afterwards, accepted or refused." Two
+// parameters and no struct (D64), as in every call that has them.
 pub fn clear(keys: &mut [u64], spare: &mut [u64])
     ensures keys { keys.new ≡ filled 0 keys.old }
     ensures spare { spare.new ≡ filled 0 spare.old }

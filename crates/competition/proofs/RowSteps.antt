@@ -1,20 +1,20 @@
 -- One row's step on a table, and the rows of a batch one after the other.
 use mathlib.Core.Path.{◌≡◌, refl, sym, ap, ◌∙◌}
-use mathlib.Core.List.{List}
+use mathlib.Core.List.{List, ◌∷◌}
+use mathlib.Core.Logic.{◌⊎◌, inl, inr}
 use mathlib.Core.Bool.{Bool, true, false, cond}
-use Prim.Native.Nat.{ℕ, suc, ◌+◌, ◌≤◌, ◌<◌, ◌^◌}
-use native.Mathlib.Numerals.{add-one}
+use Prim.Native.Nat.{ℕ, ◌<◌, ◌^◌}
 use native.Mathlib.Omega.{arith}
 use borrow.Author.Tests.{eq-eqb, ne_eqb}
 use lib.Dec.{eqb}
-use lib.IntN.{ℤ, pos}
+use lib.IntN.{ℤ}
 use lib.Signed.{mag}
-use lib.ListN.{length, drop, get_or, set, length-set, drop_of_length-le}
-use lib.Seq.{drop-cons}
+use lib.ListN.{length, get_or, set, length-set}
 use lib.Ieee.{Float, nan}
 use mir.Syntax.{w32}
 use mir.Val.{SFits, of_z, to_z}
 use mir.ValLaws.{to_z-of_z}
+use Rattle.std.proofs.lemmas.List.{nil_from_length}
 use Rattle.folds.proofs.Tests.{both_true}
 use Rattle.floats.specs.MinMax.{max_number}
 use Rattle.counting.specs.Labels.{is_decoy}
@@ -81,62 +81,60 @@ row_lengths slot label score t = go (eqb slot no_part) (is_decoy label)
 
 -- ---- the loop over a batch: the rows to come make of the present table what all rows make of the first one
 
-pub record Adding (b : Batch) (t₀ t : Table) (i : ℕ) : Type 0 where
-  pub high : i ≤ length b.slots
+pub record Adding (b : Batch) (t₀ t : Table) (slots : List ℕ) (labels : List ℤ) (scores : List Float) : Type 0 where
   pub same : SameLengths t t₀
-  pub left : all_allowed (length t₀.forward) (drop i b.slots) ≡ true
-  pub is : added (drop i b.slots) (drop i b.labels) (drop i b.scores) t
-      ≡ added b.slots b.labels b.scores t₀
+  pub labels_length : length labels ≡ length slots
+  pub scores_length : length scores ≡ length slots
+  pub left : all_allowed (length t₀.forward) slots ≡ true
+  pub is : added slots labels scores t ≡ added b.slots b.labels b.scores t₀
 
-module _ {b : Batch} {t₀ : Table} (ready : BatchReady b t₀) where
-  module _ {t : Table} {i : ℕ} (w : Adding b t₀ t i) where
-    pub adding_done : length b.slots ≤ i → t ≡ added b.slots b.labels b.scores t₀
+-- one of the columns has come to its end, and so have the others
+pub adding_done : {b : Batch} {t₀ t : Table} {slots : List ℕ} {labels : List ℤ} {scores : List Float}
+    → Adding b t₀ t slots labels scores → ((length slots ≡ 0) ⊎ (length labels ≡ 0)) ⊎ (length scores ≡ 0)
+    → t ≡ added b.slots b.labels b.scores t₀
+unfolding added
+adding_done {b} {t₀} {t} {slots} {labels} {scores} w h =
+    let n = w.labels_length in
+    let m = w.scores_length in
+    let none : length slots ≡ 0 = elim h [ inl k ↦ elim k [ inl l ↦ l | inr l ↦ omega arith ] | inr k ↦ omega arith ] in
+    ap (λ (l : List ℕ). added l labels scores t) (sym (nil_from_length slots none)) ∙ w.is
+
+module _ {b : Batch} {t₀ t : Table} {slots slots' : List ℕ} {labels : List ℤ} {scores : List Float} {slot : ℕ}
+    (ready : BatchReady b t₀) (w : Adding b t₀ t slots labels scores) (slots_are : slots ≡ slot ∷ slots')
+  where
+    next : (allowed (length t₀.forward) slot ≡ true) × (all_allowed (length t₀.forward) slots' ≡ true)
+    unfolding all_allowed
+    next =
+        both_true (allowed (length t₀.forward) slot) (all_allowed (length t₀.forward) slots')
+        (ap (all_allowed (length t₀.forward)) (sym slots_are) ∙ w.left)
+
+    -- what `add_row` asks
+    pub adding_row : RowReady slot t
+    adding_row =
+        let s = w.same in
+        let l = ready.lengths in
+        record {
+          in_table = λ n. omega (arith, slot_in_bounds (length t₀.forward) slot next.0 n, s.forward);
+          lengths = record {
+            reverse_length = s.reverse ∙ l.reverse_length ∙ sym s.forward;
+            forward_seen_length = s.forward_seen ∙ l.forward_seen_length ∙ sym s.forward;
+            reverse_seen_length = s.reverse_seen ∙ l.reverse_seen_length ∙ sym s.forward;
+          };
+        }
+
+    -- a label comes from its 32 bits
+    pub adding_step : {labels' : List ℤ} {scores' : List Float} {label : ℤ} {score : Float}
+        → labels ≡ label ∷ labels' → scores ≡ score ∷ scores' → mag label < 2 ^ 31
+        → {forward reverse : List Float} {forward_seen reverse_seen : List ℕ}
+        → table_of forward reverse forward_seen reverse_seen ≡ with_row slot (to_z w32 (of_z w32 label)) score t
+        → Adding b t₀ (table_of forward reverse forward_seen reverse_seen) slots' labels' scores'
     unfolding added
-    adding_done h =
-        ap (λ (l : List ℕ). added l (drop i b.labels) (drop i b.scores) t) (sym (drop_of_length-le b.slots h)) ∙ w.is
-
-    module _ (h : i < length b.slots) where
-      next : (allowed (length t₀.forward) (get_or b.slots i 0) ≡ true)
-          × (all_allowed (length t₀.forward) (drop (suc i) b.slots) ≡ true)
-      unfolding all_allowed
-      next =
-          both_true (allowed (length t₀.forward) (get_or b.slots i 0)) (all_allowed (length t₀.forward) (drop (suc i) b.slots))
-          (ap (all_allowed (length t₀.forward)) (sym (drop-cons b.slots i 0 h)) ∙ w.left)
-
-      -- what `add_row` asks
-      pub adding_row : RowReady (get_or b.slots i 0) t
-      adding_row =
-          let s = w.same in
-          let l = ready.lengths in
-          record {
-            in_table = λ n. omega (arith, slot_in_bounds (length t₀.forward) (get_or b.slots i 0) next.0 n, s.forward);
-            lengths = record {
-              reverse_length = s.reverse ∙ l.reverse_length ∙ sym s.forward;
-              forward_seen_length = s.forward_seen ∙ l.forward_seen_length ∙ sym s.forward;
-              reverse_seen_length = s.reverse_seen ∙ l.reverse_seen_length ∙ sym s.forward;
-            };
-          }
-
-      -- a label comes from its 32 bits
-      pub adding_step : mag (get_or b.labels i (pos 0)) < 2 ^ 31
-          → {forward reverse : List Float} {forward_seen reverse_seen : List ℕ}
-          → table_of forward reverse forward_seen reverse_seen
-          ≡ with_row (get_or b.slots i 0) (to_z w32 (of_z w32 (get_or b.labels i (pos 0)))) (get_or b.scores i nan) t
-          → Adding b t₀ (table_of forward reverse forward_seen reverse_seen) (i + 1)
-      unfolding added
-      adding_step fits e =
-          let s = get_or b.slots i 0 in
-          let l = get_or b.labels i (pos 0) in
-          let x = get_or b.scores i nan in
-          rw (e, to_z-of_z w32 l (record { sfits = fits }), add-one i)
-          (record {
-            high = h;
-            same = same_lengths_trans (row_lengths s l x t) w.same;
-            left = next.1;
-            is = rw (
-              drop-cons b.slots i 0 h,
-              drop-cons b.labels i (pos 0) (omega (arith, ready.labels_length)),
-              drop-cons b.scores i nan (omega (arith, ready.scores_length)),
-            )
-                at w.is;
-          })
+    adding_step {labels'} {scores'} {label} {score} labels_are scores_are fits e =
+        rw (e, to_z-of_z w32 label (record { sfits = fits }))
+        (record {
+          same = same_lengths_trans (row_lengths slot label score t) w.same;
+          labels_length = let n = w.labels_length in omega (arith, ap length slots_are, ap length labels_are);
+          scores_length = let n = w.scores_length in omega (arith, ap length slots_are, ap length scores_are);
+          left = next.1;
+          is = rw (slots_are, labels_are, scores_are) at w.is;
+        })

@@ -1,6 +1,6 @@
 -- The two result columns of `winners`, written slot by slot.
 use mathlib.Core.Path.{◌≡◌, sym, ap, ◌∙◌}
-use borrow.Author.Tests.{not-true, not-false}
+use borrow.Author.Tests.{not-false}
 use mathlib.Core.List.{List}
 use mathlib.Core.Bool.{Bool, true, false, not, cond}
 use Prim.Native.Nat.{ℕ, ◌+◌, ◌≤◌, ◌<◌}
@@ -26,12 +26,6 @@ module _ {t : Table} {scores : List Float} {decoys : List ℕ} {slot : ℕ} (w :
   slotwise_done h = (writing_done w.scores_are h, writing_done w.decoys_are h)
 
   module _ (h : slot < length t.forward) {b : Bool} (seen_is : b ≡ slot_seen t slot) where
-    pub slotwise_unseen : not b ≡ true
-        → Slotwise t (set scores slot nan) (set decoys slot 4294967295) (slot + 1)
-    slotwise_unseen e =
-        let s : slot_seen t slot ≡ false = sym seen_is ∙ not-true b e in
-        record { scores_are = writing_step w.scores_are h (rw s); decoys_are = writing_step w.decoys_are h (rw s) }
-
     pub slotwise_seen : not b ≡ false → {x : Float} {d : Bool} (z : Float)
         → x ≡ max_number (get_or t.forward slot nan) (get_or t.reverse slot nan)
         → d ≡ le (get_or t.forward slot nan) (get_or t.reverse slot nan)

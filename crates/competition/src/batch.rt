@@ -111,11 +111,12 @@ pub fn add_rows(batch: &Batch, table: TableMut) -> Result<(), Refusal>
         forward_seen,
         reverse_seen,
     } = table;
-    for i in 0..batch.slots.len() {
+    let rows = batch.slots.iter().zip(batch.labels).zip(batch.scores);
+    for ((slot, label), score) in rows {
         add_row(
-            batch.slots[i],
-            batch.labels[i],
-            batch.scores[i],
+            *slot,
+            *label,
+            *score,
             TableMut {
                 forward,
                 reverse,

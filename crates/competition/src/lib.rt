@@ -15,7 +15,7 @@ pub use batch::{Batch, add_rows, ask_batch, slots_allowed};
 pub use table::{Table, TableMut, fresh_table, is_seen};
 pub use winner::winners;
 
-// A row that takes no part has this slot.
+// A row that takes no part has this slot: a mark and no Option, since C's column has one u32 for each row.
 pub const NO_PART: u32 = u32::MAX;
 
 // One slot's two sides.
@@ -56,6 +56,7 @@ impl Competition {
     }
 }
 
+// By hand: derived, both sides would start at 0.
 impl Default for Competition {
     ghost is_default = { λ entry. entry ≡ record { forward = f32_min; reverse = f32_min } };
 

@@ -18,8 +18,8 @@ fn ask_winners(table: &Table, scores: usize, is_decoy: usize) -> Result<(), Refu
     columns::ask_lengths(short, fits)
 }
 
-// Each slot's score() and is_decoy(); the blanks for an unseen slot. A flag is a number, 1 or 0, since the
-// column is C's and an unseen slot has neither.
+// Each slot's score() and is_decoy(); the blanks for an unseen slot. A flag is a number, 1 or 0, since the column is
+// C's and an unseen slot has neither. By index: six columns are read or written at each slot.
 fn write_winners(table: &Table, scores: &mut [f32], is_decoy: &mut [u32])
     requires { WinnersReady table.now (length scores.old) (length is_decoy.old) }
     ensures scores { scores.new ≡ tabulated (winner table.now) 0 (length table.now.forward) }
@@ -40,7 +40,8 @@ fn write_winners(table: &Table, scores: &mut [f32], is_decoy: &mut [u32])
     }
 }
 
-// score() and is_decoy() of every seen slot, from which the host takes its densities.
+// score() and is_decoy() of every seen slot, from which the host takes its densities. Two result columns and no struct,
+// which would be made here to be taken apart in three functions.
 pub fn winners(table: &Table, scores: &mut [f32], is_decoy: &mut [u32]) -> Result<(), Refusal>
     ensures { winners_run result scores.new is_decoy.new ≡ winners table.now scores.old is_decoy.old }
 {

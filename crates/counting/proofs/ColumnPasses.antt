@@ -1,6 +1,6 @@
 -- The two passes over a column of q-values. Forwards each place gets its row's ratio; backwards each place gets the
 -- least of 1.0 and what stood there and after it, and those at most c are counted.
-use mathlib.Core.Path.{◌≡◌, refl, sym, subst, ◌∙◌}
+use mathlib.Core.Path.{◌≡◌, refl, sym, ◌∙◌}
 use mathlib.Core.List.{List, [], ◌∷◌}
 use mathlib.Core.Bool.{Bool, true, false, not, cond}
 use Prim.Native.Nat.{ℕ, suc, ◌+◌, ◌≤◌, ◌<◌, zero-le}
@@ -96,13 +96,6 @@ minimum_walk_next {c} {rs} {q} {low} {low'} {passing} {i} j e w n =
       low_is = rw p m;
       passing_is = rw (p, ← m, w.passing_is) (byte_added (le low' c) (count_at_most c (running_minimum (drop i rs))));
     }
-
-pub minimum_walk_done : {c : Float} {rs q : List Float} {low : Float} {passing i : ℕ} → MinimumWalk c rs q low passing i
-    → i ≤ 0
-    → (passing ≡ count_at_most c (running_minimum rs)) × (q ≡ running_minimum rs)
-minimum_walk_done {c} {rs} {q} {low} {passing} {i} w h =
-    let z : i ≡ 0 = omega arith in
-    (subst (λ (n : ℕ). passing ≡ count_at_most c (running_minimum (drop n rs))) z w.passing_is, subst (λ (n : ℕ). drop n q ≡ running_minimum (drop n rs)) z w.back)
 
 -- no more than the column has places
 at_most_length : (c : Float) (qs : List Float) → count_at_most c qs ≤ length qs

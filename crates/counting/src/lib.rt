@@ -17,7 +17,7 @@ pub fn how_many<T: PartialEq + Copy>(column: &[T], wanted: T) -> usize
     count
 }
 
-// How many labels are decoys.
+// How many labels are decoys. A label is C's i32, of which -1 alone is a decoy, and no enum.
 pub fn count_decoys(labels: &[i32]) -> usize
     ensures { result ≡ decoys labels.now }
 {

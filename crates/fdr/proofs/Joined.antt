@@ -1,6 +1,6 @@
 -- The passes joined with the definitions: the keys after the ranking are those of the ranked sides, their numbers the
 -- q-values, and a row reads at its name what the definition gives.
-use mathlib.Core.Path.{◌≡◌, refl, sym, ap, ap₂, ◌∙◌, subst}
+use mathlib.Core.Path.{◌≡◌, refl, ap, ap₂, ◌∙◌, subst}
 use mathlib.Core.Logic.{inl, inr}
 use mathlib.Core.List.{List, [], ◌∷◌, ◌++◌, map}
 use mathlib.Core.Bool.{Bool, true, false, cond}
@@ -174,17 +174,13 @@ module _ {bins : List Float} {t : Table} {slots : List ℕ} {labels : List ℤ} 
   in_bounds = rw w.front (listed_in_bounds t 0 (length t.forward) (seen_sides t) w.ready.pack.short (seen_listed t))
 
   -- what `rank` asks
-  pub rank_asks : (length (take rows spare₀) ≡ length (take rows keys₁))
-      × RatiosReady (length bins) t (take rows keys₁)
-  rank_asks = (
-    length-take-le rows spare₀ (omega (arith, w.few, w.ready.spare_length, w.ready.pack.keys_length)) ∙ sym part,
-    record {
-      range = w.ready.range;
-      reverse_length = w.ready.pack.lengths.reverse_length;
-      in_bounds = in_bounds;
-      countable = rw w.front (le_trans (few_targets t 0 (length t.forward)) w.ready.pack.short);
-    },
-  )
+  pub rank_asks : RatiosReady (length bins) t (take rows keys₁)
+  rank_asks = record {
+    range = w.ready.range;
+    reverse_length = w.ready.pack.lengths.reverse_length;
+    in_bounds = in_bounds;
+    countable = rw w.front (le_trans (few_targets t 0 (length t.forward)) w.ready.pack.short);
+  }
 
   abbrev ks : List ℕ
   ks = sorted (take rows keys₁)

@@ -9,7 +9,7 @@ use lib.Dec.{eqb, lit<}
 use borrow.Author.Tests.{eqb-false}
 use lib.ListN.{length, get_or, drop, set, replicate, length-set, drop_of_length-le}
 use lib.Seq.{drop-cons}
-use lib.Ieee.{binary32, is_nan, of_bits}
+use lib.Ieee.{binary32, is_nan, of_bits, to_bits}
 use Rattle.floats.proofs.Fields.{bits_cond}
 use Rattle.folds.specs.Inner.All.{All}
 use Rattle.folds.proofs.Writing.{set_reads, all_set}
@@ -85,6 +85,10 @@ unfolding written_at_names
 names_bits names [] column w h = h
 names_bits names (k ∷ ks) column w h =
     names_bits names ks (set column (key_name names k) (upper_of k)) w.1 (all_set NumberBits column (key_name names k) (upper_of k) h w.0)
+
+pub one_bits : to_bits binary32 (of_bits binary32 1065353216) ≡ 1065353216
+unfolding to_bits of_bits
+one_bits = refl
 
 pub ones_bits : (n : ℕ) → All NumberBits (replicate n 1065353216)
 ones_bits zero = tt

@@ -77,15 +77,8 @@ packing_step t {slot} {rows} {keys} w h f₁ f₂ key₁ rows₁ keys₁ k₁ l�
     next n m l = omega arith
 
 pub packing_done : (t : Table) {slot rows : ℕ} {keys : List ℕ} → Packing t slot rows keys → length t.forward ≤ slot
-    → (rows ≤ 2 * length t.forward) × ((take rows keys ≡ map side_key (seen_sides t)) × ScoresFit t (length t.forward))
+    → take rows keys ≡ map side_key (seen_sides t)
 unfolding sides_from
 packing_done t {slot} {rows} {keys} w h =
-    let l = w.high in
     let z : length t.forward - slot ≡ 0 = omega arith in
-    let all : slot ≡ length t.forward = omega arith in (
-      omega (arith, w.few),
-      (
-        sym (append-nil (take rows keys)) ∙ ap (λ (n : ℕ). take rows keys ++ map side_key (sides_from t slot n)) (sym z) ∙ w.is,
-        subst (ScoresFit t) all w.scores,
-      ),
-    )
+    sym (append-nil (take rows keys)) ∙ ap (λ (n : ℕ). take rows keys ++ map side_key (sides_from t slot n)) (sym z) ∙ w.is

@@ -27,7 +27,7 @@ pub fn name_q_values(names: Names, keys: &[u64], column: &mut [u64])
     ensures { let ones = filled 1065353216 column.old in
         column.new ≡ written_at_names names keys.now ones }
 {
-    column.fill(0x3f80_0000);
+    column.fill(u64::from(f32::to_bits(1.0)));
     for key in keys {
         let name = name_of(
             names,
@@ -51,7 +51,7 @@ fn row_q(names: Names, column: &[u64], slot: u32, label: i32) -> f32
     f32::from_bits(column[name] as u32)
 }
 
-// Every feature row's q-value.
+// Every feature row's q-value. By index: what is written behind `iter_mut().zip()` is not known to a proof.
 pub fn write_rows(names: Names, column: &[u64], slots: &[u32], labels: &[i32], q: &mut [f32])
     requires bits { All NumberBits column.now }
     requires slots_in_bounds { All (λ s. eqb s no_part ≡ false → NamesInBounds (length column.now) s) slots.now }

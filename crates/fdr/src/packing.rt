@@ -4,7 +4,6 @@ ghost use Rattle.std.specs.Float.{binary32};
 ghost use Rattle.std.specs.Float.Ieee.{fits};
 ghost use Rattle.columns.specs.Refusals.{longest};
 ghost use Rattle.ranking.specs.Inner.Layout.{packed, payload};
-ghost use Rattle.competition.specs.Tables.{is_seen};
 ghost use Rattle.fdr.specs.Sides.{seen_sides};
 ghost use Rattle.fdr.specs.Inner.Passes.{side_key, ScoresFit, PackReady};
 
@@ -20,17 +19,17 @@ fn side_key(score: f32, slot: usize, decoy: bool) -> u64
 }
 
 // A key at the next place, which moves on only where the side is seen, so that no mark takes a branch.
-fn put(keys: &mut [u64], rows: usize, mark: u32, key: u64) -> usize
+fn put(keys: &mut [u64], rows: usize, seen: bool, key: u64) -> usize
     requires { rows < length keys.old }
     ensures few { result ≤ rows + 1 }
-    ensures keys { take result keys.new ≡ take rows keys.old ++ cond (is_seen mark) (key ∷ []) [] }
+    ensures keys { take result keys.new ≡ take rows keys.old ++ cond seen (key ∷ []) [] }
 {
     keys[rows] = key;
-    rows + usize::from(competition::is_seen(mark))
+    rows + usize::from(seen)
 }
 
-// The key of every seen side, forward before reverse, slots in order; the slot is the key's place. Gives how many there
-// are.
+// The key of every seen side, forward before reverse, slots in order; gives how many there are. By index: the slot is
+// its keys' place, and four columns are read at it.
 pub fn pack(table: &Table, keys: &mut [u64]) -> usize
     requires { PackReady table.now (length keys.old) }
     ensures few { result ≤ length keys.old }
@@ -41,8 +40,10 @@ pub fn pack(table: &Table, keys: &mut [u64]) -> usize
     for slot in 0..table.forward.len() {
         let forward_key = side_key(table.forward[slot], slot, false);
         let reverse_key = side_key(table.reverse[slot], slot, true);
-        rows = put(keys, rows, table.forward_seen[slot], forward_key);
-        rows = put(keys, rows, table.reverse_seen[slot], reverse_key);
+        let forward_seen = competition::is_seen(table.forward_seen[slot]);
+        rows = put(keys, rows, forward_seen, forward_key);
+        let reverse_seen = competition::is_seen(table.reverse_seen[slot]);
+        rows = put(keys, rows, reverse_seen, reverse_key);
     }
     rows
 }

@@ -60,17 +60,17 @@ fn write_ratios(settings: Settings, bins: &[f64], table: &Table, keys: &mut [u64
 {
     let mut decoy: f32 = 1.0;
     let mut target: u32 = 0;
-    for i in 0..keys.len() {
-        let key = keys[i];
-        let pep = error_of(settings, bins, score_of(table, key));
+    for key in keys.iter_mut() {
+        let pep = error_of(settings, bins, score_of(table, *key));
         decoy += pep;
-        target += 1 - ranking::decoy_bit(key);
+        target += 1 - ranking::decoy_bit(*key);
         let q = floats::min(1.0, decoy / floats::count_to_f32(target));
-        keys[i] = with_number(key, q);
+        *key = with_number(*key, q);
     }
 }
 
-// From the last row up: the least ratio so far takes the ratio's place. Counts the targets at or under 0.01.
+// From the last row up: the least ratio so far takes the ratio's place. Counts the targets at or under 0.01. By index:
+// what is written behind `iter_mut().rev()` is not known to a proof.
 fn take_minima(keys: &mut [u64]) -> usize
     requires { All HoldsNumber keys.old }
     ensures count { let minima = running_minimum (map key_number keys.old) in

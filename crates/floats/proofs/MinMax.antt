@@ -13,9 +13,6 @@ ne_self (inf false) = refl
 ne_self (fin true m e) = rw (ne, eq-eqb (m * up e * down e) _ refl)
 ne_self (fin false m e) = rw (ne, eq-eqb (m * up e * down e) _ refl)
 
-pub not_nan : (x : Float) → ne x x ≡ false → T (not (is_nan x))
-not_nan x e = rw (← (ne_self x), e) tt
-
 -- nothing is below the NaN
 lt_nan : (x : Float) → lt x nan ≡ false
 unfolding lt

@@ -96,7 +96,7 @@ impl Float for f32 {
     }
 
     fn order_key(self) -> u32 {
-        if self != self {
+        if self.is_nan() {
             return 0xffc0_0000;
         }
         let bits = f32::to_bits(self);
@@ -147,7 +147,7 @@ impl Float for f64 {
     }
 
     fn order_key(self) -> u64 {
-        if self != self {
+        if self.is_nan() {
             return 0xfff8_0000_0000_0000;
         }
         let bits = f64::to_bits(self);
@@ -280,7 +280,8 @@ pub fn ceil<F: Float>(x: F) -> F
     -floor(-x)
 }
 
-// Rust's a.min(b), with `a` accumulated: a NaN is ignored, and of two zeros the first is kept.
+// Rust's a.min(b), with `a` accumulated: a NaN is ignored, and of two zeros the first is kept. A NaN is what differs
+// from itself, here and in `max`, since PartialOrd has no is_nan. Two operands, as min, max and total_cmp have them.
 pub fn min<F: Float>(a: F, b: F) -> F
     ensures { F.number result ≡ min_number (F.number a) (F.number b) }
 {
@@ -306,7 +307,7 @@ pub fn max<F: Float>(a: F, b: F) -> F
     a
 }
 
-// −1, 0 or 1, as C gets an order.
+// −1, 0 or 1, as C gets an order, which is no enum there.
 pub fn sign(order: Ordering) -> i32
     ensures { result ≡ sign_of order }
 {

@@ -10,11 +10,9 @@ use lib.Dec.{leb, eqb, leb→le}
 use lib.ListN.{length}
 use lib.Ieee.{Float}
 use Rattle.folds.proofs.Tests.{both_true}
-use Rattle.columns.specs.Refusals.{longest, Asked, answered}
-use Rattle.columns.specs.declared.Refusal.{Refusal}
+use Rattle.columns.specs.Refusals.{longest}
 use Rattle.columns.specs.declared.Refusal.TheVariants.{TooLong, WrongLength, OutOfRange}
-use Rattle.std.specs.Prelude.{Result, Ok, Err}
-use Rattle.std.specs.Result.{IsErrAnd}
+use Rattle.std.specs.Prelude.{Ok}
 use Rattle.columns.proofs.Questions.{met, asked_lengths}
 use Rattle.kde.specs.declared.Builder.{Builder}
 use Rattle.kde.specs.Bins.{in_range, InRange, asked, bin_scores_asked, Densities, bins_asked}

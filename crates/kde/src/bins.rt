@@ -42,8 +42,8 @@ fn write_bin_scores(estimator: Estimator, bin_scores: &mut [f64])
 {
     let min_score = estimator.min_score;
     let score_step = estimator.score_step;
-    for bin in 0..bin_scores.len() {
-        bin_scores[bin] = (bin as f64 * score_step) + min_score;
+    for (bin, score) in bin_scores.iter_mut().enumerate() {
+        *score = (bin as f64 * score_step) + min_score;
     }
 }
 
@@ -83,21 +83,23 @@ impl<'a> Model for Densities<'a> {
     ghost view = { λ d. densities_of d.decoy.now d.target.now };
 }
 
-// decoy / (target + decoy) in every bin.
+// decoy / (target + decoy) in every bin. The densities are read by index: what is written behind `iter_mut().zip()` is
+// not known to a proof.
 fn mix(pi: f64, densities: &Densities, bins: &mut [f64])
     requires decoy_density_len { length densities.now.decoy ≡ length bins.old }
     requires target_density_len { length densities.now.target ≡ length bins.old }
     ensures { let bin = posterior_bin pi densities.now.decoy densities.now.target in
         bins.new ≡ tabulated bin 0 (length bins.old) }
 {
-    for bin in 0..bins.len() {
-        let decoy = densities.decoy[bin] * pi;
-        let target = densities.target[bin] * (1.0 - pi);
-        bins[bin] = decoy / (target + decoy);
+    for (i, bin) in bins.iter_mut().enumerate() {
+        let decoy = densities.decoy[i] * pi;
+        let target = densities.target[i] * (1.0 - pi);
+        *bin = decoy / (target + decoy);
     }
 }
 
-// The running maximum from the last bin down, which starts from the last bin.
+// The running maximum from the last bin down, which starts from the last bin. By index: what is written behind
+// `iter_mut().rev()` is not known to a proof.
 fn raise(bins: &mut [f64])
     requires { 1 ≤ length bins.old }
     ensures { bins.new ≡ raised bins.old }

@@ -42,7 +42,8 @@ fn ask(listed: usize, lengths_match: bool, bins: usize) -> Result<(), Refusal>
     Ok(())
 }
 
-// Each place of a column by `f` from the other's: the column is mapped by every g that gives what `f` does.
+// Each place of a column by `f` from the other's: the column is mapped by every g that gives what `f` does. Written by
+// index: what is written behind `iter_mut().zip()` is not known to a proof.
 fn write_each<T: Copy, F: Fn(f64) -> T>(from: &[f64], to: &mut [T], f: F)
     requires to_len { length to.old ≡ length from.now }
     requires callable { F.IsAlwaysCallable f }
@@ -60,6 +61,7 @@ pub struct Builder {
     pub bins: usize,
 }
 
+// By hand: derived, it would be plain and have no bins.
 impl Default for Builder {
     ghost is_default = { λ builder. builder ≡ fresh_builder };
 

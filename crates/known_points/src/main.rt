@@ -298,7 +298,7 @@ fn tolerances(rt: &impl Print) -> io::Result<()> {
     println!(rt; "Pct -10 to 10: {}", bins(Tolerance::Pct(-10.0, 10.0)))
 }
 
-// A table of N slots, which begins with garbage.
+// A table of N slots in arrays, which begins with garbage.
 #[derive(Drop)]
 struct Slots<const N: usize> {
     forward: [f32; N],

@@ -9,11 +9,11 @@ ghost use Rattle.line_check.specs.Check.{per_of, counts_at, judgement, line_aske
 
 use columns::Refusal;
 
-// The two rates that lists are sold at.
+// The two rates that lists are sold at, each as how many targets a row needs for each of its decoys plus one.
 #[derive(Clone, Copy, Debug, PartialEq, Eq, Hash)]
 pub enum Rate {
-    OneIn100,
-    OneIn20,
+    OneIn100 = 100,
+    OneIn20 = 20,
 }
 
 // A row, and the decoys plus one and the targets up to it.
@@ -76,10 +76,7 @@ impl Rate {
     fn per_decoy(self) -> usize
         ensures { result ≡ per_of self }
     {
-        match self {
-            Rate::OneIn100 => 100,
-            Rate::OneIn20 => 20,
-        }
+        self as usize
     }
 }
 
@@ -111,9 +108,9 @@ fn last_later(labels: &[i32], own: Counts, rate: Rate) -> Counts
     let per = rate.per_decoy();
     let mut last = own;
     let mut so_far = own;
-    for i in own.row..labels.len() {
-        let is_decoy = (labels[i] == -1) as usize;
-        so_far.row = i + 1;
+    for label in &labels[own.row..] {
+        let is_decoy = (*label == -1) as usize;
+        so_far.row += 1;
         so_far.decoys_plus_one += is_decoy;
         so_far.targets += 1 - is_decoy;
         if so_far.targets < per * so_far.decoys_plus_one {

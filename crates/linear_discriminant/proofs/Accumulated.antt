@@ -2,10 +2,11 @@
 -- table, entry by entry.
 use mathlib.Core.Path.{◌≡◌, refl, sym, ap, ◌∙◌}
 use mathlib.Core.Bool.{Bool, true, false, cond}
-use Prim.Native.Nat.{ℕ, ◌+◌, ◌*◌, ◌/◌, ◌≤◌, ◌<◌, zero-le}
+use Prim.Native.Nat.{ℕ, ◌+◌, ◌-◌, ◌*◌, ◌/◌, ◌≤◌, ◌<◌, zero-le}
 use native.Mathlib.Omega.{arith}
 use lib.Dec.{ltb}
-use lib.ListN.{length, get_or, set}
+use lib.ListN.{length, get_or, set, take, drop}
+use lib.Seq.{get_or-take, get_or-drop}
 use lib.Ieee.{Float, nan}
 use Rattle.folds.specs.Walks.{steps, for_range}
 use Rattle.folds.specs.Lists.{tabulated}
@@ -13,6 +14,10 @@ use Rattle.folds.proofs.Writing.{length_tabulated, tabulated_same, tabulated_at}
 use Rattle.gauss.specs.Elimination.{Vector, Matrix, row, entry}
 use Rattle.linear_discriminant.specs.Inner.Passes.{add_kept_product, accumulated_at, accumulated, pair_added, kept_added, stored_width, half_table}
 use Rattle.folds.proofs.Walks.{for_range_last}
+
+-- number d of the part of a row from j on
+pub part_at : (r : Vector) (j w d : ℕ) → d < w → get_or (take (j + w - j) (drop j r)) d nan ≡ get_or r (j + d) nan
+part_at r j w d h = get_or-take (j + w - j) (drop j r) d nan (omega arith) ∙ get_or-drop j r d nan
 
 module _ (w : ℕ) (kept : Matrix) (j start : ℕ) (table : Matrix) where
   pub length_accumulated : (g : ℕ) {a : Vector} → a ≡ accumulated w kept g j start table → length a ≡ 12
@@ -27,13 +32,15 @@ module _ (w : ℕ) (kept : Matrix) (j start : ℕ) (table : Matrix) where
       go true x = refl
       go false x = refl
 
-  pub accumulated_more : (g : ℕ) {a₀ a : Vector} → a₀ ≡ accumulated w kept g j start table
-      → a ≡ tabulated (λ d. cond (ltb d w) (add_kept_product j (start + d) (row kept g) (get_or a₀ d nan))
-      (get_or a₀ d nan))
-      0 12
+  -- a row with one kept row more, r
+  abbrev added : Vector → Vector → Vector
+  added r a = tabulated (λ d. cond (ltb d w) (add_kept_product j (start + d) r (get_or a d nan)) (get_or a d nan)) 0 12
+
+  pub accumulated_more : (g : ℕ) {r a₀ a : Vector} → r ≡ row kept g → a₀ ≡ accumulated w kept g j start table
+      → a ≡ added r a₀
       → a ≡ accumulated w kept (g + 1) j start table
   unfolding accumulated
-  accumulated_more g {a₀} p e = e ∙ tabulated_same 12 (λ d h. at d h)
+  accumulated_more g {a₀ = a₀} q p e = e ∙ ap (λ (r : Vector). added r a₀) q ∙ tabulated_same 12 (λ d h. at d h)
     where
       go : (b : Bool) (f : Float → Float) (x y z v : Float) → v ≡ cond b x z → y ≡ f x → cond b (f v) v ≡ cond b y z
       go true f x y z v q r = ap f q ∙ sym r
@@ -43,10 +50,10 @@ module _ (w : ℕ) (kept : Matrix) (j start : ℕ) (table : Matrix) where
           → cond (ltb d w) (add_kept_product j (start + d) (row kept g) (get_or a₀ d nan)) (get_or a₀ d nan)
           ≡ accumulated_at w kept (g + 1) j start table d
       at d h =
-          let added : ℕ → Float → Float = λ g. add_kept_product j (start + d) (row kept g) in
-          go (ltb d w) (added g) (for_range added 0 g (entry table j d)) (for_range added 0 (g + 1) (entry table j d)) (entry table j d) (get_or a₀ d nan)
+          let sum : ℕ → Float → Float = λ g. add_kept_product j (start + d) (row kept g) in
+          go (ltb d w) (sum g) (for_range sum 0 g (entry table j d)) (for_range sum 0 (g + 1) (entry table j d)) (entry table j d) (get_or a₀ d nan)
           (ap (λ (l : Vector). get_or l d nan) p ∙ tabulated_at (accumulated_at w kept g j start table) 12 d nan h)
-          (for_range_last added 0 g (entry table j d) zero-le)
+          (for_range_last sum 0 g (entry table j d) zero-le)
 
 pub pair_done : (w : ℕ) (kept : Matrix) (j : ℕ) (table : Matrix) (g m : ℕ) {a b : Vector} → g ≤ m → m ≤ g
     → a ≡ accumulated w kept g j j table

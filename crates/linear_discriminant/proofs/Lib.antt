@@ -1,3 +1,5 @@
+pub mod Made
+pub mod Products
 pub mod Questions
 pub mod Classes
 pub mod Sums

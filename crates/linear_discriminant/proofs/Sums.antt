@@ -2,7 +2,7 @@
 use mathlib.Core.Path.{◌≡◌, refl, sym, ap, ◌∙◌}
 use mathlib.Core.List.{List, []}
 use mathlib.Core.Bool.{Bool, true, false, cond}
-use Prim.Native.Nat.{ℕ, zero, suc, ◌+◌, ◌≤◌, ◌<◌, zero-le}
+use Prim.Native.Nat.{ℕ, zero, suc, ◌+◌, ◌<◌, zero-le}
 use native.Mathlib.Numerals.{add-one}
 use lib.IntN.{ℤ, pos}
 use lib.ListN.{get_or, replicate}
@@ -15,17 +15,11 @@ use Rattle.gauss.specs.Elimination.{Matrix, row}
 use Rattle.linear_discriminant.specs.Rows.{feature}
 use Rattle.linear_discriminant.specs.Fit.{class_of, in_class, add_taken, summed}
 use Rattle.linear_discriminant.specs.Inner.Passes.{added_row, sum_row, summed_rows}
-use Rattle.folds.proofs.Walks.{for_range_last, for_range_join}
+use Rattle.folds.proofs.Walks.{for_range_last}
 use Rattle.folds.proofs.Writing.{tabulated_same, tabulated_at, tabulated_set}
 use Rattle.linear_discriminant.proofs.Classes.{class_small}
 
 module _ (features : List Float) (labels : List ℤ) where
-  pub sums_join : (from half to : ℕ) (s : Matrix) {s₁ s₂ : Matrix} → from ≤ half → half ≤ to
-      → s₁ ≡ summed_rows features labels from half s
-      → s₂ ≡ summed_rows features labels half to s₁ → s₂ ≡ summed_rows features labels from to s
-  unfolding summed_rows
-  sums_join from half to s h l e f = f ∙ ap (for_range (sum_row features labels) half to) e ∙ for_range_join (sum_row features labels) from half to s h l
-
   -- the sum of column j over the rows of class c
   abbrev pub class_sum : ℕ → ℕ → ℕ → Float
   class_sum c n j = summed (in_class labels c) (λ i. feature features i j) n

@@ -52,26 +52,24 @@ fn fit(rows: &Rows, decoys: usize, targets: usize) -> Result<[f64; 20], Refusal>
     gauss::solve(left, right, 20)
 }
 
-// Pass 1: the sums of both classes. Two calls keep `sum_rows` a function of its own, with the sums in memory: inlined
-// into its caller it would choose between the classes number by number.
+// Pass 1: the sums of both classes.
 fn class_sums(rows: &Rows) -> [[f64; 20]; 2]
     ensures { result ≡ class_sums rows.now.features.now rows.now.labels.now }
 {
     let mut sums = [[0.0; 20]; 2];
-    let half = rows.labels.len() / 2;
-    sum_rows(rows, &mut sums, 0, half);
-    sum_rows(rows, &mut sums, half, rows.labels.len());
+    sum_rows(rows, &mut sums);
     sums
 }
 
-// Each row from `from` up to `to` is added to its class's sums.
-fn sum_rows(rows: &Rows, sums: &mut [[f64; 20]; 2], from: usize, to: usize)
-    requires { (from ≤ to) × (to ≤ length rows.now.labels.now) }
-    ensures { let summed = summed_rows rows.now.features.now rows.now.labels.now from to in
-        sums.new ≡ summed sums.old }
+// Each row is added to its class's sums. Inlined into its caller, it would not have the sums in memory, and would
+// choose between the classes number by number.
+#[inline(never)]
+fn sum_rows(rows: &Rows, sums: &mut [[f64; 20]; 2])
+    ensures { let summed = summed_rows rows.now.features.now rows.now.labels.now in
+        sums.new ≡ summed 0 (length rows.now.labels.now) sums.old }
 {
-    for i in from..to {
-        let c = crate::class_of(rows.labels[i]);
+    for (i, label) in rows.labels.iter().enumerate() {
+        let c = crate::class_of(*label);
         sums[c] = add_row(rows.features, i, &sums[c]);
     }
 }
@@ -82,11 +80,7 @@ fn add_row(features: &[f64], i: usize, sum: &[f64; 20]) -> [f64; 20]
     requires { 20 * i + 20 ≤ length features.now }
     ensures { result ≡ added_row features.now i sum.now }
 {
-    let mut next = [0.0; 20];
-    for j in 0..20 {
-        next[j] = sum[j] + features[20 * i + j];
-    }
-    next
+    std::array::from_fn(|j| sum[j] + features[20 * i + j])
 }
 
 // A class's means.
@@ -95,20 +89,12 @@ fn mean_of(sum: &[f64; 20], count: usize) -> [f64; 20]
     ensures { result ≡ mean_of sum.now count }
 {
     let n = count as f64;
-    let mut mean = [0.0; 20];
-    for j in 0..20 {
-        mean[j] = sum[j] / n;
-    }
-    mean
+    std::array::from_fn(|j| sum[j] / n)
 }
 
 // The difference of two rows of means, a − b.
 fn subtract_rows(a: &[f64; 20], b: &[f64; 20]) -> [f64; 20]
     ensures { result ≡ row_difference a.now b.now }
 {
-    let mut row = [0.0; 20];
-    for j in 0..20 {
-        row[j] = a[j] - b[j];
-    }
-    row
+    std::array::from_fn(|j| a[j] - b[j])
 }

@@ -1,5 +1,6 @@
 // The linear discriminant, after sage's linear_discriminant.rs (document 01, module 3): the fit, a row's score, and the
-// scoring run. Feature rows are twenty f64 each, one after the other.
+// scoring run. Feature rows are twenty f64 each, one after the other. Arrays have a fixed size, since the library takes
+// no memory.
 #![tactic(auto)]
 
 mod fit;
@@ -30,7 +31,8 @@ fn twenty_each(features: usize, rows: usize) -> bool
     (features % 20 == 0) & (features / 20 == rows)
 }
 
-// A label's class: 0 is the decoys', label -1, and 1 the targets'.
+// A label's class: 0 is the decoys', label -1, and 1 the targets'. A number and no enum, since it is the class's place
+// in sums and tables, without a branch.
 fn class_of(label: i32) -> usize
     ensures { (result ≡ class_of label) × (result < 2) }
 {

@@ -38,17 +38,15 @@ fn centred(features: &[f64], i: usize, mean: &[f64; 20]) -> [f64; 28]
     requires { 20 * i + 20 ≤ length features.now }
     ensures { result ≡ centred_row features.now i mean.now }
 {
+    let centred: [f64; 20] = std::array::from_fn(|j| features[20 * i + j] - mean[j]);
     let mut row = [0.0; 28];
-    for j in 0..20 {
-        row[j] = features[20 * i + j] - mean[j];
-    }
-    for j in 20..28 {
-        row[j] = row[j - 20];
-    }
+    row[..20].copy_from_slice(&centred);
+    row[20..].copy_from_slice(&centred[..8]);
     row
 }
 
-// The first m kept rows are added to a class's table: twelve columns of the first ten rows, ten of the others.
+// The first m kept rows are added to a class's table: twelve columns of the first ten rows, ten of the others. p counts
+// pairs of rows.
 fn add_kept(table: &mut [[f64; 12]; 20], kept: &[[f64; 28]; 16], m: usize)
     requires { m ≤ 16 }
     ensures { table.new ≡ kept_added kept.now m table.old }
@@ -61,22 +59,19 @@ fn add_kept(table: &mut [[f64; 12]; 20], kept: &[[f64; 28]; 16], m: usize)
     }
 }
 
-// The first m kept rows are added to table rows j and j + 1, whose sums stay in registers until the last is added.
+// The first m kept rows are added to table rows j and j + 1, whose sums stay in registers until the last is added. The
+// two rows are copied number by number, since a proof does not know how long a row of a table is; both sums are written
+// at one index, since what is written behind `iter_mut().zip()` is not known to a proof.
 fn add_pair(table: &mut [[f64; 12]; 20], kept: &[[f64; 28]; 16], m: usize, j: usize, width: usize)
     requires { (m ≤ 16) × (j < 19) × (width ≤ 12) × (j + width ≤ 28) }
     ensures { table.new ≡ pair_added width kept.now m j table.old }
 {
-    let mut a = [0.0; 12];
-    let mut b = [0.0; 12];
-    for d in 0..12 {
-        a[d] = table[j][d];
-        b[d] = table[j + 1][d];
-    }
-    for g in 0..m {
-        let x = kept[g][j];
-        let y = kept[g][j + 1];
-        for d in 0..width {
-            let z = kept[g][j + d];
+    let mut a: [f64; 12] = std::array::from_fn(|d| table[j][d]);
+    let mut b: [f64; 12] = std::array::from_fn(|d| table[j + 1][d]);
+    for row in &kept[..m] {
+        let x = row[j];
+        let y = row[j + 1];
+        for (d, z) in row[j..j + width].iter().enumerate() {
             a[d] += x * z;
             b[d] += y * z;
         }
@@ -91,8 +86,8 @@ pub(crate) fn scatter_within(tables: &[[[f64; 12]; 20]; 2], d: f64, t: f64) -> [
         result ≡ within_table (get_or classes 0 []) (get_or classes 1 []) d t }
 {
     let mut left = [[0.0; 20]; 20];
-    for j in 0..20 {
-        left[j] = within_row(tables, d, t, j);
+    for (j, row) in left.iter_mut().enumerate() {
+        *row = within_row(tables, d, t, j);
     }
     left
 }
@@ -103,11 +98,9 @@ fn within_row(tables: &[[[f64; 12]; 20]; 2], d: f64, t: f64, j: usize) -> [f64; 
     ensures { let classes = tables.now in
         result ≡ within_row (get_or classes 0 []) (get_or classes 1 []) d t j }
 {
-    let mut row = [0.0; 20];
-    for k in 0..20 {
-        row[k] = (0.0 + scatter_of(&tables[0], j, k) / d) + scatter_of(&tables[1], j, k) / t;
-    }
-    row
+    std::array::from_fn(|k| {
+        (0.0 + scatter_of(&tables[0], j, k) / d) + scatter_of(&tables[1], j, k) / t
+    })
 }
 
 // The scatter of columns j and k, which row j has or else row k.

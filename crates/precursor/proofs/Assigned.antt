@@ -1,7 +1,7 @@
 -- The pass from the last ranked row up: what its counters, its minimum, its count and its column hold when the rows
 -- from i on are done. The counts up to a row fall by that row at each turn, and the ratio at a row is theirs.
 use mathlib.Core.Path.{◌≡◌, refl, sym, ap, ap₂, ◌∙◌}
-use mathlib.Core.List.{List, map}
+use mathlib.Core.List.{List, [], ◌∷◌, ◌++◌, map}
 use mathlib.Core.Bool.{cond, ◌&&◌}
 use Prim.Native.Nat.{ℕ, suc, ◌+◌, ◌-◌, ◌≤◌, ◌<◌, zero-le}
 use native.Mathlib.Nat.{le_refl, le_of_eq}
@@ -9,11 +9,12 @@ use native.Mathlib.Numerals.{add-one}
 use native.Mathlib.Omega.{arith}
 use lib.Dec.{eqb}
 use lib.IntN.{ℤ, pos}
-use lib.ListN.{length, get_or, take, drop, set, length-map, length-set, get_or-map, drop_of_length-le}
+use lib.ListN.{length, get_or, take, drop, set, length-map, length-set, length-append, get_or-map, drop_of_length-le}
 use lib.Seq.{drop-cons, take-length}
 use lib.Ieee.{Float, nan, binary32, le, of_bits}
 use mir.Val.{bool_byte}
 use Rattle.folds.proofs.Tests.{byte_most}
+use Rattle.folds.proofs.Parts.{unsnoc}
 use Rattle.floats.specs.MinMax.{min_number}
 use Rattle.floats.specs.Ratio.{one_in}
 use Rattle.counting.specs.Labels.{is_decoy, decoys, targets}
@@ -65,6 +66,32 @@ pub decoys_counted_step : (keys : List ℕ) {i decoy bit : ℕ} → DecoysCounte
 decoys_counted_step keys {i} {decoy} {bit} w h e =
     let f = w.few in
     record { high = omega arith; few = omega arith; is = omega (arith, w.is, decoys_by_key keys i h) }
+
+-- ---- the keys that are left of a walk from the last one up
+
+pub record Left (keys rest : List ℕ) : Type 0 where
+  pub few : length rest ≤ length keys
+  pub is : rest ≡ take (length rest) keys
+
+pub left_start : (keys : List ℕ) → Left keys keys
+left_start keys = record { few = le_refl (length keys); is = sym (take-length keys) }
+
+-- the last of them is taken: it is the key at the number of those before it
+pub record Taken (keys rest rest' : List ℕ) (key : ℕ) : Type 0 where
+  pub fewer : length rest ≡ length rest' + 1
+  pub below : length rest' < length keys
+  pub is : key ≡ get_or keys (length rest') 0
+  pub left : Left keys rest'
+
+pub left_next : {keys rest rest' : List ℕ} {key : ℕ} → Left keys rest → rest ≡ rest' ++ (key ∷ [])
+    → Taken keys rest rest' key
+left_next {keys} {rest} {rest'} {key} w e =
+    let n : length rest ≡ length rest' + 1 = rw e (length-append rest' (key ∷ [])) in
+    let few = w.few in
+    let h : length rest' < length keys = omega arith in
+    let cut : take (length rest' + 1) keys ≡ rest' ++ (key ∷ []) = ap (λ (n : ℕ). take n keys) (sym n) ∙ sym w.is ∙ e in
+    let t = unsnoc 0 keys rest' key (length rest') h cut in
+    record { fewer = n; below = h; is = t.0; left = record { few = omega arith; is = sym t.1 } }
 
 -- ---- the q-values, from the last row up
 

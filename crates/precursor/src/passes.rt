@@ -33,12 +33,11 @@ pub fn assign_q_value(keys: &[u64], q: &mut [f32]) -> usize
     let mut target = keys.len() as u32 + 1 - decoy;
     let mut q_min = 1.0f32;
     let mut passing: usize = 0;
-    for i in (0..keys.len()).rev() {
-        let key = keys[i];
-        let is_decoy = ranking::decoy_bit(key);
+    for key in keys.iter().rev() {
+        let is_decoy = ranking::decoy_bit(*key);
         let ratio = floats::count_to_f32(decoy) / floats::count_to_f32(target);
         q_min = floats::min(q_min, ratio);
-        q[ranking::place_of(key)] = q_min;
+        q[ranking::place_of(*key)] = q_min;
         passing += ((q_min <= 0.05) & (is_decoy == 0)) as usize;
         decoy -= is_decoy;
         target -= 1 - is_decoy;
@@ -46,7 +45,7 @@ pub fn assign_q_value(keys: &[u64], q: &mut [f32]) -> usize
     passing
 }
 
-// Each row's place, in ranked order.
+// Each row's place, in ranked order. By index: what is written behind `iter_mut().zip()` is not known to a proof.
 pub fn write_order(keys: &[u64], order: &mut [u32])
     requires { length order.old ≡ length keys.now }
     ensures { order.new ≡ map place_of keys.now }

@@ -1,6 +1,7 @@
 // sage's ml/qvalue.rs (document 01, module 6): one pass from the first row writes each row's ratio of decoys plus one
 // to targets, and one from the last takes the running minimum and counts. Neither branches on a row, so that the order
-// of the labels does not change their speed.
+// of the labels does not change their speed. Both write by index: what is written behind `iter_mut().zip()` or `.rev()`
+// is not known to a proof.
 #![tactic(auto)]
 
 ghost use Rattle.std.specs.Prelude.{◌≡◌, ◌≤◌, not, T, length};

@@ -20,7 +20,7 @@ use std::num::{
 use std::rt::Files;
 use std::{fs, io};
 
-// A number as it is recorded.
+// A number as it is recorded. Each type has functions of its own for its bits, so each has an impl of its own.
 pub trait Recorded: Copy {
     // how many bytes it has, and its bits and the number at the head of some bytes, with zeros past their end
     ghost width: { ℕ };

@@ -1,4 +1,5 @@
-// Module 5, competitions.
+// Module 5, competitions. C has no struct of columns, no bool and no enum here: a table is four columns, and marks,
+// flags and `two_names` are numbers.
 ghost use Rattle.std.specs.Prelude.{◌≡◌};
 ghost use Rattle.columns.specs.Refusals.{answer_number, answer_count, ◌and◌};
 ghost use Rattle.competition.specs.Tables.{table_of, fresh_table};
@@ -88,7 +89,7 @@ pub extern "C" fn vayemuku_winners(
     columns::answer_number(&competition::winners(&table, scores, is_decoy))
 }
 
-// 0 is one name for both sides of a slot, any other number two.
+// 0 is one name for both sides of a slot, any other number two. A function and no From: neither type is this crate's.
 fn names(two_names: u32) -> Names
     ensures { result ≡ names_of two_names }
 {

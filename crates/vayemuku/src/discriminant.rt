@@ -1,4 +1,4 @@
-// Module 3, the discriminant.
+// Module 3, the discriminant. C has no Result: the number of the refusal, or 0, is returned.
 ghost use Rattle.std.specs.Prelude.{◌≡◌, get_or};
 ghost use Rattle.std.specs.Float.{nan};
 ghost use Rattle.columns.specs.Refusals.{answer_number, ◌and◌};

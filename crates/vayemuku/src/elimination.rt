@@ -1,4 +1,5 @@
-// Module 2, elimination.
+// Module 2, elimination. A system is twenty rows of twenty, and `size` says how many of each count, since the library
+// takes no memory. C has no Result: `values` gets the answer, and the number of the refusal, or 0, is returned.
 ghost use Rattle.std.specs.Prelude.{◌≡◌};
 ghost use Rattle.columns.specs.Refusals.{answer_number, ◌and◌};
 ghost use Rattle.gauss.specs.Solutions.{solution, solved_values};

@@ -1,4 +1,5 @@
-// Module 7, the line check; and q-values with the check of their own line.
+// Module 7, the line check; and q-values with the check of their own line. C has no enum with fields: an answer is a
+// number, 1 or 0 for right, and three counts; and it has one export for each rate.
 ghost use Rattle.std.specs.Prelude.{◌≡◌, Result};
 ghost use Rattle.columns.specs.Refusals.{◌and◌};
 ghost use Rattle.line_check.specs.Check.{line_answer, numbers_of};

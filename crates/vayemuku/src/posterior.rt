@@ -1,4 +1,5 @@
-// Module 4, posterior errors.
+// Module 4, posterior errors. C has no bool and no enum here: `monotonic` and `unit` are numbers, and a builder, an
+// estimator and a tolerance are passed by their parts.
 ghost use Rattle.std.specs.Prelude.{◌≡◌};
 ghost use Rattle.columns.specs.Refusals.{answer_number, answer_count, ◌and◌};
 ghost use Rattle.kde.specs.Bins.{fresh_builder, estimator, bin_scores_of, built_estimator};
@@ -131,7 +132,7 @@ pub extern "C" fn vayemuku_posterior_errors(
     columns::answer_number(&kde::posterior_errors(estimator, bins, scores, errors))
 }
 
-// Unit 0 is ppm and 1 is Da; any other is refused as Pct is.
+// Unit 0 is ppm and 1 is Da; any other is refused as Pct is. A function and no From: neither type is this crate's.
 fn tolerance(unit: u32, lo: f32, hi: f32) -> Tolerance
     ensures { result ≡ tolerance_of unit lo hi }
 {

@@ -1,4 +1,4 @@
-// Module 6, q-values. `count` gets the count, and the number of the refusal, or 0, is returned.
+// Module 6, q-values. C has no Result: `count` gets the count, and the number of the refusal, or 0, is returned.
 ghost use Rattle.std.specs.Prelude.{◌≡◌};
 ghost use Rattle.columns.specs.Refusals.{answer_number, answer_count, ◌and◌};
 ghost use Rattle.qvalue.specs.Spectrum.{spectrum_q_value};

@@ -1,18 +1,9 @@
 -- `agreement::checked_precursors` meets its contract: the questions' answer picks what is answered and left.
-use mathlib.Core.Path.{sym, ◌∙◌}
 use Rattle.agreement.specs.Checked.{checked_precursors}
-use Rattle.agreement.proofs.PrecursorLine.{checked_lengths}
 use Rattle.agreement.proofs.checked_precursors.Goals as goal
-
-pub make_and_check-requires : goal.make_and_check-requires
-make_and_check-requires c =
-    checked_lengths _ _ _ _ _ _ _ (sym c.ask.ensures ∙ c.in_default.is)
 
 pub returns-in-Err : goal.returns-in-Err
 unfolding checked_precursors
 returns-in-Err c =
     let w = c.clear.ensures in
     rw (w.keys, w.spare, c.fill.ensures.after (λ y e. e), c.blank.ensures, c.blank-in-Err.ensures, ← c.ask.ensures, c.in-Err.is)
-
-pub returns : goal.returns
-returns c = c.make_and_check.ensures

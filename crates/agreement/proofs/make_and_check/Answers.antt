@@ -16,15 +16,14 @@ unwrap-requires-2 c =
     order_ok p.labels.now p.scores.now p.keys.now p.spare.now p.ranked.now p.order.now p.q.now c.requires _ _ _ _ _ _
     picked.1 picked.2 c.precursor_order.ensures
 
-pub read_ranked-line-requires : goal.read_ranked-line-requires
-read_ranked-line-requires c =
+pub read_ranked-line-requires-clause-order_in_bounds : goal.read_ranked-line-requires-clause-order_in_bounds
+read_ranked-line-requires-clause-order_in_bounds c =
     let p = c.args in
     let picked = picked_is p.labels.now p.scores.now p.keys.now p.spare.now p.ranked.now p.order.now p.q.now c.requires _ _ _ _
     c.picked_precursor.ensures in
     let order = order_is p.labels.now p.scores.now p.keys.now p.spare.now p.ranked.now p.order.now p.q.now c.requires _ _ _ _ _ _
     picked.1 picked.2 c.precursor_order.ensures in
-    let w = reads p.labels.now p.scores.now p.keys.now p.spare.now p.ranked.now p.order.now p.q.now c.requires _ _ picked.0 order.0 in
-    record { q_len = w.0; order_in_bounds = w.1 }
+    reads p.labels.now p.scores.now p.keys.now p.spare.now p.ranked.now p.order.now p.q.now c.requires _ order.0
 
 pub returns : goal.returns
 returns c =

@@ -21,10 +21,9 @@ ranked c =
     ranks c.args.settings c.args.bins.now c.args.table.now _ _ w.new.keys w.new.spare w.ensures.count w.ensures.keys
     w.auto.keys w.auto.spare
 
-pub rank-passing-requires : goal.rank-passing-requires
-rank-passing-requires c =
-    let asks = rank_asks (packed (goal.at.rank-passing-requires c).After-pack-rows) in
-    record { spare_len = asks.0; ratios_ready = asks.1 }
+pub rank-passing-requires-clause-ratios_ready : goal.rank-passing-requires-clause-ratios_ready
+rank-passing-requires-clause-ratios_ready c =
+    rank_asks (packed (goal.at.rank-passing-requires-clause-ratios_ready c).After-pack-rows)
 
 pub name_q_values-requires : goal.name_q_values-requires
 name_q_values-requires c =

@@ -66,9 +66,6 @@ pub returns-then-is_nan : goal.returns-then-is_nan
 unfolding of_bits converted
 returns-then-is_nan c = sym (ap (converted binary32) (nan_only c.args.x (sym c.is_nan.ensures.value ∙ c.if-is_nan.true)))
 
-pub float_to_bits-bits : goal.float_to_bits-bits
-float_to_bits-bits c = number c
-
 pub float_from_bits-unsigned : goal.float_from_bits-unsigned
 float_from_bits-unsigned c =
     subst (λ (b : Bool). T (not b)) (sym (nan_bits_is binary64 (to_bits binary64 c.args.x % 9223372036854775808) ∙ ap is_nan (passed c)))

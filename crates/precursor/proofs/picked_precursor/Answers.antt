@@ -8,15 +8,13 @@ use Rattle.precursor.proofs.Keyed.{keyed_rows}
 use Rattle.precursor.proofs.Joined.{places_asked, picked}
 use Rattle.precursor.proofs.picked_precursor.Goals as goal
 
-pub assign_q_value-passing-requires : goal.assign_q_value-passing-requires
-assign_q_value-passing-requires c =
+pub assign_q_value-passing-requires-clause-places_in_bounds
+    : goal.assign_q_value-passing-requires-clause-places_in_bounds
+assign_q_value-passing-requires-clause-places_in_bounds c =
     let a = c.args in
-    record {
-      keys_len_bound = search rules;
-      places_in_bounds = places_asked a.labels.now a.scores.now a.keys.now a.spare.now
-          (precursor_lengths _ _ _ _ _ (sym c.ask.ensures ∙ c.in_default.is)).1 _
-          (c.sort.ensures.keys ∙ ap sorted (keyed_rows a.labels.now (λ place decoy h t. search rules) c.pack.ensures));
-    }
+    places_asked a.labels.now a.scores.now a.keys.now a.spare.now
+    (precursor_lengths _ _ _ _ _ (sym c.ask.ensures ∙ c.in_default.is)).1 _
+    (c.sort.ensures.keys ∙ ap sorted (keyed_rows a.labels.now (λ place decoy h t. search rules) c.pack.ensures))
 
 pub returns-in-Err : goal.returns-in-Err
 unfolding picked_precursor

@@ -1,23 +1,14 @@
 -- `qvalue::spectrum_q_value` meets its contract: the questions' answer picks what is answered and left.
-use mathlib.Core.Path.{sym, ap, ◌∙◌}
-use lib.ListN.{length}
+use mathlib.Core.Path.{sym, ◌∙◌}
 use Rattle.counting.specs.QValues.{q_values}
-use Rattle.columns.proofs.Questions.{if_accepted, refused_run, kept}
+use Rattle.columns.proofs.Questions.{if_accepted, refused_run}
 use Rattle.qvalue.specs.Spectrum.{spectrum_run, spectrum_q_value}
-use Rattle.qvalue.proofs.Questions.{spectrum_lengths}
 use Rattle.qvalue.proofs.spectrum_q_value.Goals as goal
 
 pub returns-in_err-or_blank : goal.returns-in_err-or_blank
 unfolding spectrum_q_value
 returns-in_err-or_blank c =
     refused_run spectrum_run _ _ _ c.ask-asked.ensures c.or_blank.ensures.answer c.in_err-or_blank.was c.from_residual.ensures.1 c.or_blank.ensures.column
-
-pub write_ratios-requires : goal.write_ratios-requires
-write_ratios-requires c =
-    let e = sym c.ask-asked.ensures ∙ sym c.or_blank.ensures.answer ∙ c.in_ok-or_blank.was in
-    let w = spectrum_lengths _ _ e in
-    let same = kept _ _ c.or_blank.ensures.column (sym c.or_blank.ensures.answer ∙ c.in_ok-or_blank.was) in
-    record { q_len = ap length same ∙ w.0; labels_len_bound = w.1 }
 
 pub returns : goal.returns
 unfolding spectrum_q_value q_values

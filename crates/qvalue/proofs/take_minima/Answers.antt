@@ -1,11 +1,10 @@
 -- `qvalue::take_minima` meets its contract: from the place down, the column holds the least of 1.0 and what stood there
 -- and after it, and those at most 0.01 are counted (`MinimumWalk`).
 use native.Mathlib.Omega.{arith}
-use borrow.Author.Rules.{rules}
 use lib.Ieee.{binary32, of_bits, le}
 use Rattle.folds.proofs.Tests.{byte_most}
 use Rattle.floats.proofs.Ratio.{one_in_100}
-use Rattle.counting.proofs.ColumnPasses.{minimum_walk_start, minimum_walk_next, minimum_walk_number, minimum_walk_bound, minimum_walk_done}
+use Rattle.counting.proofs.ColumnPasses.{minimum_walk_start, minimum_walk_next, minimum_walk_number, minimum_walk_bound}
 use Rattle.qvalue.proofs.take_minima.Goals as goal
 
 pub loop-i-init : goal.loop-i-init
@@ -20,8 +19,3 @@ overflow_add-passing c =
 
 pub loop-i-preserved : goal.loop-i-preserved
 loop-i-preserved c = rw (← one_in_100) (minimum_walk_next _ (omega arith) c.loop-i.invariant c.lower-q_min.ensures)
-
-pub returns : goal.returns
-returns c =
-    let w = minimum_walk_done c.loop-i.invariant (search rules) in
-    record { count = w.0; column = w.1 }

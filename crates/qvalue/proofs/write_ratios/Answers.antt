@@ -3,7 +3,7 @@
 use native.Mathlib.Omega.{arith}
 use borrow.Author.Rules.{rules}
 use Rattle.counting.proofs.ColumnPasses.{rated_start, rated_next, rated_done}
-use Rattle.counting.proofs.Tally.{tally_next, next_decoy, next_target, mark_small}
+use Rattle.counting.proofs.Tally.{tally_next, next_decoy, next_target}
 use Rattle.qvalue.proofs.write_ratios.Goals as goal
 
 pub loop-i-init : goal.loop-i-init
@@ -11,9 +11,6 @@ loop-i-init c = rated_start c.requires.q_len
 
 pub overflow_add-decoy : goal.overflow_add-decoy
 overflow_add-decoy c = omega (arith, next_decoy c.loop-i.invariant.tally (search rules))
-
-pub overflow_sub-target : goal.overflow_sub-target
-overflow_sub-target c = mark_small c.args.labels.now c.loop-i.i
 
 pub overflow_add-target : goal.overflow_add-target
 overflow_add-target c = omega (arith, next_target c.loop-i.invariant.tally (search rules))

@@ -1,7 +1,7 @@
 -- `competition::add_rows` meets its contract: the questions' answer picks what is answered and left, and a turn is a
 -- row's step on the table (`Adding`).
-use mathlib.Core.Path.{ap, sym, ◌∙◌}
-use lib.ListN.{get_or}
+use mathlib.Core.Path.{sym, ◌∙◌}
+use mathlib.Core.Logic.{inl, inr}
 use borrow.Author.Rules.{rules}
 use Rattle.std.proofs.lemmas.Result.{err_from_is_err_and}
 use Rattle.competition.specs.Batches.{add_rows}
@@ -19,17 +19,21 @@ returns-in_err-ask_batch c =
 pub add_row-requires : goal.add_row-requires
 add_row-requires c =
     let asked = rw c.read.ensures at c.ask_batch.ensures in
-    rw (ap (λ b. get_or b.slots c.loop-i.i 0) c.batch.view_is)
-    (adding_row (batch_ready _ _ (sym asked ∙ c.in_ok-ask_batch.was)) c.loop-i.invariant (rw (← c.batch.view_is) (search rules)))
+    adding_row (batch_ready _ _ (sym asked ∙ c.in_ok-ask_batch.was)) c.loop-slot.invariant c.in-Some.ensures.steps.0.0
 
-pub loop-i-preserved : goal.loop-i-preserved
-loop-i-preserved c =
+pub loop-slot-preserved : goal.loop-slot-preserved
+loop-slot-preserved c =
     let asked = rw c.read.ensures at c.ask_batch.ensures in
-    adding_step (batch_ready _ _ (sym asked ∙ c.in_ok-ask_batch.was)) c.loop-i.invariant (rw (← c.batch.view_is) (search rules))
-    (rw (← c.batch.view_is) (search rules)) (rw (← c.batch.view_is) c.add_row.ensures)
+    let steps = c.in-Some.ensures.steps in
+    adding_step (batch_ready _ _ (sym asked ∙ c.in_ok-ask_batch.was)) c.loop-slot.invariant steps.0.0 steps.0.1 steps.1
+    (search rules) c.add_row.ensures
 
 pub returns : goal.returns
 unfolding add_rows
 returns c =
     let asked = rw c.read.ensures at c.ask_batch.ensures in
-    rw (adding_done (batch_ready _ _ (sym asked ∙ c.in_ok-ask_batch.was)) c.loop-i.invariant (rw (← c.batch.view_is) (search rules)), ← asked, c.in_ok-ask_batch.was)
+    let done = adding_done c.loop-slot.invariant (elim c.in-None.ensures.steps [
+      | inl p ↦ elim p.1 [ inl q ↦ inl (inl q.1.0) | inr q ↦ inl (inr q.1.0) ]
+      | inr p ↦ inr p.1.0
+    ]) in
+    rw (done, ← asked, c.in_ok-ask_batch.was)

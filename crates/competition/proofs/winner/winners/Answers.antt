@@ -1,11 +1,6 @@
 -- `competition::winners` meets its contract: the questions' answer picks what is answered and left.
-use mathlib.Core.Path.{sym, ◌∙◌}
 use Rattle.competition.specs.Winners.{winners}
-use Rattle.competition.proofs.Questions.{winners_ready}
 use Rattle.competition.proofs.winner.winners.Goals as goal
-
-pub write_winners-requires : goal.write_winners-requires
-write_winners-requires c = winners_ready _ _ _ (sym c.ask_winners.ensures ∙ c.in_default.is)
 
 pub returns-in-Err : goal.returns-in-Err
 unfolding winners

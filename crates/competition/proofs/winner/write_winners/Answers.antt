@@ -2,14 +2,8 @@
 use mathlib.Core.Path.{ap}
 use mathlib.Core.Bool.{not}
 use borrow.Author.Rules.{rules}
-use Rattle.competition.proofs.Slotwise.{slotwise_unseen, slotwise_seen, slotwise_done}
+use Rattle.competition.proofs.Slotwise.{slotwise_seen, slotwise_done}
 use Rattle.competition.proofs.winner.write_winners.Goals as goal
-
-pub loop-slot-preserved-then-not-is_seen : goal.loop-slot-preserved-then-not-is_seen
-loop-slot-preserved-then-not-is_seen c =
-    rw (c.blank.ensures, c.blank-in-loop-slot.ensures)
-    (slotwise_unseen c.loop-slot.invariant (search rules)
-    (rw (c.is_seen.ensures, c.is_seen-in-loop-slot.ensures, ← c.table.view_is)) (ap not c.if-not-is_seen.true))
 
 pub loop-slot-preserved : goal.loop-slot-preserved
 loop-slot-preserved c =

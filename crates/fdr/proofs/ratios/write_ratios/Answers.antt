@@ -13,10 +13,10 @@ use Rattle.fdr.proofs.ratios.write_ratios.Goals as goal
 pub with_number-requires : goal.with_number-requires
 with_number-requires c = subst (λ (x : Float). T (not (is_nan x))) (sym c.min-q.ensures) (min_number_lem f32_one _ one_number)
 
-pub loop-i-preserved : goal.loop-i-preserved
-loop-i-preserved c =
-    summing_step _ _ _ _ c.loop-i.invariant (search rules) _ _ _ _ _ c.score_of.ensures c.error_of-pep.ensures c.decoy_bit.ensures
+pub loop-key-preserved : goal.loop-key-preserved
+loop-key-preserved c =
+    summing_step _ _ _ _ c.loop-key.invariant (search rules) _ _ _ _ _ c.score_of.ensures c.error_of-pep.ensures c.decoy_bit.ensures
     _ c.count_to_f32.ensures c.min-q.ensures c.with_number.ensures
 
 pub returns : goal.returns
-returns c = summing_done _ _ _ _ c.loop-i.invariant (search rules)
+returns c = summing_done _ _ _ _ c.loop-key.invariant (search rules)

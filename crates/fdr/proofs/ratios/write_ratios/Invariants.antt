@@ -2,5 +2,5 @@
 use Rattle.fdr.proofs.Sums.{Summing}
 use Rattle.fdr.proofs.ratios.write_ratios.Given as goal
 
-abbrev pub invariant-loop-i : goal.invariant-loop-i
-invariant-loop-i l = Summing l.settings l.bins l.table l.initial.keys l.i l.decoy l.target l.keys
+abbrev pub invariant-loop-key : goal.invariant-loop-key
+invariant-loop-key l = Summing l.settings l.bins l.table l.initial.keys l.key-index l.decoy l.target l.keys

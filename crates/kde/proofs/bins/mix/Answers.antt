@@ -5,4 +5,4 @@ use Rattle.folds.proofs.Writing.{writing_all}
 use Rattle.kde.proofs.bins.mix.Goals as goal
 
 pub returns : goal.returns
-returns c = writing_all c.loop-bin.invariant (search rules)
+returns c = writing_all c.loop-i.invariant (search rules)

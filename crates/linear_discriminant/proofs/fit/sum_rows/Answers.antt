@@ -13,7 +13,7 @@ loop-i-preserved c =
     let w = c.loop-i in
     step_by w.invariant (search rules)
     (sum_turn a.rows.now.features.now a.rows.now.labels.now w.i w.sums
-    (class_given (get_or a.rows.now.labels.now w.i (pos 0)) c.class_of-arg-1.given c.class_of-c.ensures) c.add_row.ensures)
+    (class_given (get_or a.rows.now.labels.now w.i (pos 0)) (search rules) c.class_of-c.ensures) c.add_row.ensures)
 
 pub returns : goal.returns
 unfolding summed_rows

@@ -1,10 +1,19 @@
--- `linear_discriminant::scatter::centred` meets its contract: a column written from the front, twice over its first
--- eight numbers.
+-- `linear_discriminant::scatter::centred` meets its contract: an array made place by place, and copied with its first
+-- eight numbers once more.
+use mathlib.Core.Path.{refl}
+use Prim.Native.Nat.{ℕ}
+use lib.ListN.{get_or}
+use lib.Ieee.{nan, binary64, sub}
 use borrow.Author.Rules.{rules}
-use Rattle.folds.proofs.Writing.{writing_done}
+use Rattle.folds.specs.Lists.{tabulated}
+use Rattle.linear_discriminant.specs.Rows.{feature}
 use Rattle.linear_discriminant.specs.Inner.Passes.{centred_row}
+use Rattle.linear_discriminant.proofs.Made.{made_tabulated}
 use Rattle.linear_discriminant.proofs.scatter.centred.Goals as goal
 
 pub returns : goal.returns
-unfolding centred_row
-returns c = writing_done c.loop-j-2.invariant.0 (search rules)
+unfolding centred_row tabulated
+returns c =
+    let a = c.args in
+    let e = made_tabulated (λ (j : ℕ). sub binary64 (feature a.features.now a.i j) (get_or a.mean.now j nan)) nan c.from_fn-centred.ensures.items (λ i y q h k. search rules) in
+    rw (c.copy_from_slice-2.ensures.after, c.copy_from_slice.ensures.after, e) refl

@@ -21,7 +21,7 @@ loop-i-preserved-then-m-lt15 c =
     let a = c.args in
     let w = c.loop-i in
     gathered_keep w.invariant (search rules) (search rules)
-    (class_given (get_or a.rows.now.labels.now w.i (pos 0)) c.class_of-arg-1.given c.class_of-c.ensures)
+    (class_given (get_or a.rows.now.labels.now w.i (pos 0)) (search rules) c.class_of-c.ensures)
     c.centred.ensures (search rules)
 
 pub loop-i-preserved : goal.loop-i-preserved
@@ -30,7 +30,7 @@ loop-i-preserved c =
     let w = c.loop-i in
     let k = c.class_of-c.result in
     gathered_add w.invariant (search rules) (search rules)
-    (class_given (get_or a.rows.now.labels.now w.i (pos 0)) c.class_of-arg-1.given c.class_of-c.ensures)
+    (class_given (get_or a.rows.now.labels.now w.i (pos 0)) (search rules) c.class_of-c.ensures)
     c.centred.ensures (adds a.rows.now.features.now a.rows.now.labels.now (row a.means.now k) k) (search rules) c.add_kept.ensures
 
 pub returns : goal.returns
