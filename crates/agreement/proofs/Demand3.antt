@@ -165,9 +165,6 @@ module _ (labels : List ℤ) (scores : List Float) (keys spare : List ℕ) (q : 
   lengths : (length labels ≡ length scores) × PrecursorReady (length scores) (length keys) (length spare) (length q)
   lengths = precursor_lengths _ _ _ _ _ let_in.0
 
-  as_long : length (as_ranked labels scores) ≡ length labels
-  as_long = length_as_ranked labels scores ∙ sym lengths.0
-
   few : length (as_ranked labels scores) ≤ longest
   few = subst (λ (n : ℕ). n ≤ longest) (sym (length_as_ranked labels scores)) lengths.1.short
 

@@ -11,8 +11,8 @@ use crate::{Competition, NO_PART};
 use columns::Refusal;
 use std::marker::Model;
 
-// A batch's three columns, one entry per row. A contract sees the record of them. A label of -1 is a decoy: labels are
-// C's numbers.
+// A batch's three columns, one entry per row, as C has them. A contract sees the record of them. A label of -1 is a
+// decoy: labels are C's numbers.
 #[derive(Drop)]
 pub struct Batch<'a> {
     pub slots: &'a [u32],

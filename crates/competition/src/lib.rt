@@ -29,6 +29,7 @@ impl Competition {
     // the score of an unseen side
     pub const UNSEEN: f32 = f32::MIN;
 
+    // Each side has a method of its own, as it has a field.
     pub fn raise_forward(mut self, score: f32) -> Self
         ensures { result ≡ record { forward = max_number self.forward score; reverse = self.reverse } }
     {

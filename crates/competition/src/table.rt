@@ -7,7 +7,8 @@ use crate::Competition;
 use columns::Refusal;
 use std::marker::Model;
 
-// A table's four columns, one entry per slot. A contract sees the record of them.
+// A table's four columns, one entry per slot, as C has them: of any lengths, of which questions are asked, so that what
+// works on them requires that they match. A contract sees the record of them.
 #[derive(Drop)]
 pub struct Table<'a> {
     pub forward: &'a [f32],

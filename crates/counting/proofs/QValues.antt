@@ -58,6 +58,7 @@ pub q_rises : (labels : List ℤ) (i : ℕ) → i + 1 < length labels
 unfolding q_values
 q_rises labels i h = rw add-one (running_minimum_rise (ratios labels) i (omega (arith, length_ratios labels)))
 
+-- a q-value is at most 1
 pub q_at_most_one : (labels : List ℤ) (i : ℕ) → i < length labels
     → T (le (get_or (q_values labels) i nan) (of_bits binary32 0x3F800000))
 q_at_most_one labels i h = rw (q_at labels i h) (minimum_most (drop i (ratios labels)))
@@ -74,6 +75,7 @@ ratio_above d (suc t) p h k =
     (ratio_mono 1 (2 ^ 24) d (suc t) (omega arith) (omega arith) (omega arith)))
 
 module _ (labels : List ℤ) (short : length labels ≤ 16777215) where
+  -- and above 0
   pub q_above_none : (i : ℕ) → i < length labels → T (lt (of_bits binary32 0) (get_or (q_values labels) i nan))
   unfolding ratio_at
   q_above_none i h =

@@ -1,4 +1,5 @@
-// The q-value of every name, and each feature row's read at its name.
+// The q-value of every name, and each feature row's read at its name. That numbers and names are within bounds is what
+// the passes before give of their columns, and required of them here.
 ghost use Rattle.std.specs.Prelude.{◌≡◌, false, ◌<◌, eqb, pos, length, get_or};
 ghost use Rattle.folds.specs.Lists.{filled, tabulated};
 ghost use Rattle.folds.specs.Inner.All.{All};
@@ -9,7 +10,7 @@ ghost use Rattle.fdr.specs.Inner.Passes.{written_at_names, read_at_name, NamesIn
 
 use crate::Names;
 
-// The number of a side's name.
+// The number of a side's name. Which it is stands in an enum that C's number becomes, and no closure.
 fn name_of(names: Names, slot: usize, decoy: bool) -> usize
     requires { slot < 4294967296 }
     ensures { result ≡ name_of names slot decoy }
@@ -38,7 +39,7 @@ pub fn name_q_values(names: Names, keys: &[u64], column: &mut [u64])
     }
 }
 
-// A feature row's q-value.
+// A feature row's q-value. A label is C's i32, of which −1 alone is a decoy.
 fn row_q(names: Names, column: &[u64], slot: u32, label: i32) -> f32
     requires bits { All NumberBits column.now }
     requires names_in_bounds { eqb slot no_part ≡ false → NamesInBounds (length column.now) slot }
@@ -61,7 +62,7 @@ pub fn write_rows(names: Names, column: &[u64], slots: &[u32], labels: &[i32], q
         let read = read_at_name names column.now in
         q.new ≡ tabulated (λ i. read (get_or slots i 0) (get_or labels i (pos 0))) 0 (length slots) }
 {
-    for i in 0..slots.len() {
-        q[i] = row_q(names, column, slots[i], labels[i]);
+    for (i, slot) in slots.iter().enumerate() {
+        q[i] = row_q(names, column, *slot, labels[i]);
     }
 }

@@ -1,4 +1,5 @@
-// The passes over the ranked keys: each row's ratio, and then its q-value, takes the score's place in its key.
+// The passes over the ranked keys: each row's ratio, and then its q-value, takes the score's place in its key. Settings
+// and bins are two parameters: a rule of the project passes an estimator by value, beside the bin column.
 ghost use Rattle.std.specs.Prelude.{◌≡◌, map, not, ◌<◌, T, length};
 ghost use Rattle.std.specs.Float.Ieee.{is_nan};
 ghost use Rattle.folds.specs.Inner.All.{All};

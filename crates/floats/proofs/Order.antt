@@ -251,6 +251,7 @@ min_nan nan = refl
 min_nan (inf s) = refl
 min_nan (fin s m e) = refl
 
+-- of a NaN and b the smaller is b
 pub nan_min : (b : Float) → min_number nan b ≡ b
 unfolding min_number
 nan_min b = refl
@@ -269,6 +270,7 @@ max_minus_infinity (inf true) p = refl
 max_minus_infinity (inf false) p = refl
 max_minus_infinity (fin s m e) p = refl
 
+-- of a NaN and b the larger is b
 pub nan_max : (b : Float) → max_number nan b ≡ b
 unfolding max_number
 nan_max b = refl

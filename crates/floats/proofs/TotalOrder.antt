@@ -74,6 +74,7 @@ chained x y z r p q = elim (by_value x y (before_left y z q) p) [
   | inr a ↦ elim (by_value y z r q) [ inl b ↦ lt→before x z (lt_of_le_of_lt x y z a.0 b) | inr b ↦ absurd (T_not (negative y) a.2 b.1) ]
 ]
 
+-- what is before y is before all that y is before
 pub before_trans : (x y z : Float) → T (before x y) → T (before y z) → T (before x z)
 unfolding is_nan
 before_trans x y nan p q = rw before_nan (before_left x y p)
@@ -292,6 +293,7 @@ key_injective f x y p q e =
     (sym (key_is f x) ∙ e ∙ key_is f y)
     ∙ sym (bits_sign f y))
 
+-- of two different floats one is before the other
 pub before_total : (f : Format) (x y : Float) → T (fits f x) → T (fits f y)
     → T (before x y) ⊎ ((x ≡ y) ⊎ T (before y x))
 before_total f x y p q =

@@ -10,15 +10,20 @@ use mir.ValLaws.{to_z-of_z}
 use denote.Floats.{passes}
 use lib.Ieee.{Float, nan, inf, fin, Format, binary32, binary64, prec, up, down, below, level, round, neg, sub, lt, le, eq}
 use lib.Ieee.{of_int, to_signed, to_unsigned, in_float, fits, is_nan}
-use lib.Ieee.Fits.{down_pos, neg-fits, and_i, and_l, and_r, round-fits, fits_widens}
+use lib.Ieee.Fits.{down_pos, neg-fits, and_i, round-fits, fits_widens}
 use lib.Ieee.Bits.{is_true}
 use lib.Ieee.Exact.{HasValue}
 use lib.Ieee.Back.{round_whole}
 use lib.Ieee.Scale.{round_same}
-use Rattle.floats.specs.Whole.{ceiling, whole_limit, may_have_fraction, floored, ceiled}
+use Rattle.std.specs.Float.{floor, ceil, round_with}
+use Rattle.floats.specs.Whole.{ceiling, floored, ceiled}
 use Rattle.floats.proofs.Values.{in_format, round_self, value_unique}
 use Rattle.floats.proofs.Order.{gain, loss}
 use Rattle.floats.proofs.Fractions.{lt_at, eq_at, le_at, add_at, neg_value, neg_le, neg_neg, neg_round}
+
+-- a float of this size or more is whole; with the sign s
+abbrev pub whole_limit : Format → Bool → Float
+whole_limit f s = fin s 1 (pos (prec f - 1))
 
 ceiling_is : (k a d : ℕ) → a ≤ k * d → k * d < a + d → ceiling a d ≡ k
 ceiling_is k a d h l = div-eq_of_lt-le d (omega arith) (rw add-mul (omega (arith, one-mul d)))
@@ -268,48 +273,25 @@ floor_code f x e = let t = passes (fits f x) e in record {
   kept = λ h k. kept f x (inside f x h k);
 }
 
--- of `floor`: from the limits on x stays
-pub stays : (f : Format) {x : Float} {small : Bool} → T (fits f x) → small ≡ may_have_fraction f x → small ≡ false
-    → x ≡ floored f x
-stays f {x} t i h = go (lt x (whole_limit f false)) (lt (whole_limit f true) x) refl refl (sym i ∙ h)
-  where
-    go : (a b : Bool) → lt x (whole_limit f false) ≡ a → lt (whole_limit f true) x ≡ b → (a && b) ≡ false
-        → x ≡ floored f x
-    go true true i j h = absurd (true≢false h)
-    go true false i j h = (floor_code f x (is_true _ t)).to_limit j
-    go false b i j h = (floor_code f x (is_true _ t)).from_limit i
+-- ---- std's floor and ceil are these
 
--- between the limits
-module _ (f : Format) (x : Float) (t : fits f x ≡ true) (h : T (may_have_fraction f x)) where
-  code : FloorCode f x
-  code = floor_code f x t
+std_up : (f : Format) (m : ℕ) (e : ℤ)
+    → round f true ((m * up e + down e - 1) / down e) 1 ≡ round f true (ceiling (m * up e) (down e)) 1
+std_up f m e = ap (λ (n : ℕ). round f true (n / down e) 1) (omega (arith, down_pos e))
 
-  under : lt x (whole_limit f false) ≡ true
-  under = is_true _ (and_l (lt x (whole_limit f false)) (lt (whole_limit f true) x) h)
+pub floor_by_std : (f : Format) (x : Float) → floor f x ≡ floored f x
+unfolding floored round_with
+floor_by_std f nan = refl
+floor_by_std f (inf s) = refl
+floor_by_std f (fin false m e) = refl
+floor_by_std f (fin true m e) = std_up f m e
 
-  over : lt (whole_limit f true) x ≡ true
-  over = is_true _ (and_r (lt x (whole_limit f false)) (lt (whole_limit f true) x) h)
-
-  -- of `cut`
-  pub cut_castable : T (le (fin true 1 (pos 63)) x) × T (lt x (fin false 1 (pos 63)))
-  cut_castable = code.castable under over
-
-  pub cut_exact : {z : ℤ} → z ≡ to_signed 63 x → T (in_float f (to_z w64 (of_z w64 z)))
-  cut_exact e = (code.cut under over e).exact
-
-  cut_known : Cut f x (to_signed 63 x)
-  cut_known = subst (λ (z : ℤ). Cut f x z) (code.kept under over) (code.cut under over refl)
-
--- of `floor`: the cut w is compared with x
-pub record Picked (f : Format) (x w : Float) : Type 0 where
-  pub same : eq w x ≡ true → x ≡ floored f x
-  pub less : lt w x ≡ true → w ≡ floored f x
-  pub more : eq w x ≡ false → lt w x ≡ false → sub f w (fin false 1 (pos 0)) ≡ floored f x
-
-pub picked : (f : Format) {x w : Float} {small : Bool} → T (fits f x) → small ≡ may_have_fraction f x → small ≡ true
-    → w ≡ of_int f (to_signed 63 x) → Picked f x w
-picked f {x} t i h e =
-    let k = cut_known f x (is_true _ t) (passes _ (sym i ∙ h)) in rw e (record { same = k.same; less = k.less; more = k.more })
+pub ceil_by_std : (f : Format) (x : Float) → ceil f x ≡ ceiled f x
+unfolding ceiled round_with
+ceil_by_std f nan = refl
+ceil_by_std f (inf s) = refl
+ceil_by_std f (fin false m e) = ap (λ (n : ℕ). round f false (n / down e) 1) (omega (arith, down_pos e))
+ceil_by_std f (fin true m e) = refl
 
 -- ---- the ceiling
 -- the ceiling is the floor's negative of the negative

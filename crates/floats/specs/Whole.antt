@@ -1,7 +1,7 @@
 -- Whole numbers below and above a float. Document 01, module 1: "floor and ceil".
-use Rattle.std.specs.Prelude.{ℕ, ◌+◌, ◌-◌, ◌*◌, ◌/◌, Bool, true, false, cond, ◌&&◌, pos, Float}
+use Rattle.std.specs.Prelude.{ℕ, ◌+◌, ◌-◌, ◌*◌, ◌/◌, cond, Float}
 use Rattle.std.specs.Float.{nan, inf, fin, Format}
-use Rattle.std.specs.Float.Ieee.{prec, up, down, round, lt}
+use Rattle.std.specs.Float.Ieee.{up, down, round}
 
 -- the least whole number not below a / c, for a c above 0
 abbrev pub ceiling : ℕ → ℕ → ℕ
@@ -22,11 +22,3 @@ unfolding round
 ceiled f nan = nan
 ceiled f (inf s) = inf s
 ceiled f (fin s m e) = round f s (cond s (m * up e / down e) (ceiling (m * up e) (down e))) 1
-
--- a float of this size or more is whole; with the sign s
-abbrev pub whole_limit : Format → Bool → Float
-whole_limit f s = fin s 1 (pos (prec f - 1))
-
--- whether x lies between the two limits
-abbrev pub may_have_fraction : Format → Float → Bool
-may_have_fraction f x = lt x (whole_limit f false) && lt (whole_limit f true) x

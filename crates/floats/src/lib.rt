@@ -6,22 +6,21 @@
 ghost use Rattle.std.specs.Prelude.{◌≡◌, ◌≤◌, ℕ, false, not, T, pos, negsuc, is_nan};
 ghost use Rattle.std.specs.Ordering.{float_partial_cmp, nat_cmp};
 ghost use Rattle.std.specs.Float.{Float as Number, Format, binary32, binary64, fin};
-ghost use Rattle.std.specs.Float.Ieee.{fits, of_int, to_signed, to_unsigned, lt, le, eq, neg, sub};
+ghost use Rattle.std.specs.Float.Ieee.{fits, to_unsigned, lt, le};
 ghost use Rattle.floats.specs.Signs.{negative};
 ghost use Rattle.floats.specs.Convert.{converted};
-ghost use Rattle.floats.specs.Whole.{may_have_fraction, floored, ceiled};
+ghost use Rattle.floats.specs.Whole.{floored, ceiled};
 ghost use Rattle.floats.specs.MinMax.{min_number, max_number};
 ghost use Rattle.floats.specs.TotalOrder.{compared, sign_of, order_key};
 ghost use Rattle.floats.specs.Ratio.{f32_of_count};
 ghost use Rattle.std.proofs.Common.{refl};
 
 use std::cmp::Ordering;
-use std::num::{truncating_f32_to_i64, truncating_f64_to_i64, truncating_f64_to_u64};
-use std::ops::{Neg, Sub};
+use std::num::truncating_f64_to_u64;
 
-// f32 or f64: a format, the operators, and the few steps that each takes with constants or integers of its own. That a
-// value is a float of its format is in their clauses, since a proof over every such type could not know it.
-pub trait Float: Copy + PartialOrd + Neg<Output = Self> + Sub<Output = Self> + Into<f64> {
+// f32 or f64: a format, an order, and the steps that each takes by functions of its own. That a value is a float of its
+// format is in their clauses, since a proof over every such type could not know it.
+pub trait Float: Copy + PartialOrd + Into<f64> {
     // The unsigned integer of as many bits.
     type Key: Copy + Ord;
 
@@ -32,19 +31,14 @@ pub trait Float: Copy + PartialOrd + Neg<Output = Self> + Sub<Output = Self> + I
 
     ghost key: { Self.Key → ℕ };
 
-    const ONE: Self;
+    fn is_nan(self) -> bool
+        ensures { result ≡ is_nan (number self) };
 
-    ghost ONE: { Self };
+    fn floor(self) -> Self
+        ensures { number result ≡ floored format (number self) };
 
-    // Whether it is below the power of two from which on every float is whole, and above its negative.
-    fn may_have_fraction(self) -> bool
-        ensures test { result ≡ may_have_fraction format (number self) }
-        ensures in_format { T (fits format (number self)) };
-
-    // The whole number that is left without the fraction.
-    fn cut(self) -> Self
-        requires { T (may_have_fraction format (number self)) }
-        ensures { number result ≡ of_int format (to_signed 63 (number self)) };
+    fn ceil(self) -> Self
+        ensures { number result ≡ ceiled format (number self) };
 
     // A number that stands among the numbers as the float stands among the floats: the bits without the sign, upwards
     // from the middle, or downwards where the sign is on. The sign is a factor and not a branch. Each type has its own
@@ -53,20 +47,8 @@ pub trait Float: Copy + PartialOrd + Neg<Output = Self> + Sub<Output = Self> + I
         ensures key { key result ≡ order_key format (number self) }
         ensures in_format { T (fits format (number self)) };
 
-    // The operators and the conversion are IEEE 754's, and keys compare as numbers.
-    ghost one: { number ONE ≡ fin false 1 (pos 0) };
-
-    ghost equals: { (a b : Self) → Self.eq a b ≡ eq (number a) (number b) };
-
+    // The order and the conversion are IEEE 754's, and keys compare as numbers.
     ghost compares: { (a b : Self) → Self.partial_cmp a b ≡ float_partial_cmp (number a) (number b) };
-
-    ghost can_negate: { (a : Self) → Self.can_neg a };
-
-    ghost negates: { (a r : Self) → Self.neg_gives a r → number r ≡ neg (number a) };
-
-    ghost can_subtract: { (a b : Self) → Self.can_sub a b };
-
-    ghost subtracts: { (a b r : Self) → Self.sub_gives a b r → number r ≡ sub format (number a) (number b) };
 
     ghost widens: { (a : Self) (r : Number) → Self.converts a r → r ≡ number a };
 
@@ -82,17 +64,18 @@ impl Float for f32 {
 
     ghost key = { λ k. k };
 
-    const ONE: f32 = 1.0;
-
-    ghost ONE = { fin false 1 (pos 0) };
-
-    // from 2^23 on
-    fn may_have_fraction(self) -> bool {
-        self < 8388608.0 && self > -8388608.0
+    fn is_nan(self) -> bool {
+        f32::is_nan(self)
     }
 
-    fn cut(self) -> f32 {
-        truncating_f32_to_i64(self) as f32
+    #[tactic(auto, using(crate::proofs::Whole::floor_by_std))]
+    fn floor(self) -> f32 {
+        f32::floor(self)
+    }
+
+    #[tactic(auto, using(crate::proofs::Whole::ceil_by_std))]
+    fn ceil(self) -> f32 {
+        f32::ceil(self)
     }
 
     fn order_key(self) -> u32 {
@@ -105,19 +88,7 @@ impl Float for f32 {
         size + 0x8000_0000 - sign * (size + size + 1)
     }
 
-    ghost one = { refl };
-
-    ghost equals = { λ a b. refl };
-
     ghost compares = { λ a b. refl };
-
-    ghost can_negate = { λ a. tt };
-
-    ghost negates = { λ a r h. h };
-
-    ghost can_subtract = { λ a b. tt };
-
-    ghost subtracts = { λ a b r h. h };
 
     ghost widens = { λ a r h. h };
 
@@ -133,17 +104,18 @@ impl Float for f64 {
 
     ghost key = { λ k. k };
 
-    const ONE: f64 = 1.0;
-
-    ghost ONE = { fin false 1 (pos 0) };
-
-    // from 2^52 on
-    fn may_have_fraction(self) -> bool {
-        self < 4503599627370496.0 && self > -4503599627370496.0
+    fn is_nan(self) -> bool {
+        f64::is_nan(self)
     }
 
-    fn cut(self) -> f64 {
-        truncating_f64_to_i64(self) as f64
+    #[tactic(auto, using(crate::proofs::Whole::floor_by_std))]
+    fn floor(self) -> f64 {
+        f64::floor(self)
+    }
+
+    #[tactic(auto, using(crate::proofs::Whole::ceil_by_std))]
+    fn ceil(self) -> f64 {
+        f64::ceil(self)
     }
 
     fn order_key(self) -> u64 {
@@ -156,19 +128,7 @@ impl Float for f64 {
         size + 0x8000_0000_0000_0000 - sign * (size + size + 1)
     }
 
-    ghost one = { refl };
-
-    ghost equals = { λ a b. refl };
-
     ghost compares = { λ a b. refl };
-
-    ghost can_negate = { λ a. tt };
-
-    ghost negates = { λ a r h. h };
-
-    ghost can_subtract = { λ a b. tt };
-
-    ghost subtracts = { λ a b r h. h };
 
     ghost widens = { λ a r h. h };
 
@@ -195,7 +155,8 @@ fn nearest_f32(size: f64) -> f64
     (size + power) - power
 }
 
-// Rust's `x as f32`: the nearest f32, ties to even.
+// Rust's `x as f32`: the nearest f32, ties to even. std's `nearest_f64_to_f32_with_nan` takes two to three times as
+// long.
 pub fn narrow(x: f64) -> f32
     ensures { result ≡ converted binary32 x }
 {
@@ -235,7 +196,8 @@ pub fn whole_part(x: f64) -> u64
     digits >> (1075 - exponent)
 }
 
-// Rust's `x as u64`: toward zero, to the nearest end of the range where x is out of it, 0 for a NaN.
+// Rust's `x as u64`: toward zero, to the nearest end of the range where x is out of it, 0 for a NaN. On numbers of both
+// signs std's `saturating_f64_to_u64` takes three times as long.
 pub fn to_u64<F: Float>(x: F) -> u64
     ensures { result ≡ to_unsigned 64 (F.number x) }
 {
@@ -249,7 +211,7 @@ pub fn to_u64<F: Float>(x: F) -> u64
     whole_part(max(0.5, wide))
 }
 
-// Rust's `x as usize`.
+// Rust's `x as usize`, which has 64 bits.
 pub fn to_usize<F: Float>(x: F) -> usize
     ensures { result ≡ to_unsigned 64 (F.number x) }
 {
@@ -260,35 +222,25 @@ pub fn to_usize<F: Float>(x: F) -> usize
 pub fn floor<F: Float>(x: F) -> F
     ensures { F.number result ≡ floored F.format (F.number x) }
 {
-    if !x.may_have_fraction() {
-        return x;
-    }
-    let whole = x.cut();
-    if whole == x {
-        return x;
-    }
-    if whole < x {
-        return whole;
-    }
-    whole - F::ONE
+    x.floor()
 }
 
 // The least whole number not below x.
 pub fn ceil<F: Float>(x: F) -> F
     ensures { F.number result ≡ ceiled F.format (F.number x) }
 {
-    -floor(-x)
+    x.ceil()
 }
 
-// Rust's a.min(b), with `a` accumulated: a NaN is ignored, and of two zeros the first is kept. A NaN is what differs
-// from itself, here and in `max`, since PartialOrd has no is_nan. Two operands, as min, max and total_cmp have them.
+// Rust's a.min(b), with `a` accumulated: a NaN is ignored, and of two zeros the first is kept; std's `min` and `max`
+// leave open which. Two operands, as min, max and total_cmp have them.
 pub fn min<F: Float>(a: F, b: F) -> F
     ensures { F.number result ≡ min_number (F.number a) (F.number b) }
 {
     if b < a {
         return b;
     }
-    if a != a {
+    if a.is_nan() {
         return b;
     }
     a
@@ -301,7 +253,7 @@ pub fn max<F: Float>(a: F, b: F) -> F
     if a < b {
         return b;
     }
-    if a != a {
+    if a.is_nan() {
         return b;
     }
     a
@@ -321,7 +273,7 @@ pub fn order_key<F: Float>(x: F) -> F::Key
     x.order_key()
 }
 
-// Rust's a.total_cmp(&b), with every NaN the one above all.
+// Rust's a.total_cmp(&b), with every NaN the one above all; std's asks that there is none.
 pub fn total_cmp<F: Float>(a: F, b: F) -> Ordering
     ensures { result ≡ compared (F.number a) (F.number b) }
 {

@@ -3,7 +3,7 @@
 use mathlib.Core.Path.{◌≡◌, refl, sym, ap, ◌∙◌}
 use mathlib.Core.List.{List, [], ◌∷◌}
 use mathlib.Core.Bool.{Bool, true, false, cond}
-use Prim.Native.Nat.{ℕ, suc, ◌+◌, ◌≤◌, ◌<◌, ◌^◌, zero-le}
+use Prim.Native.Nat.{ℕ, suc, ◌+◌, ◌≤◌, ◌<◌, zero-le}
 use native.Mathlib.Numerals.{add-one}
 use native.Mathlib.Omega.{arith}
 use lib.Dec.{T}
@@ -45,9 +45,6 @@ pub record Counting {A : Type 0} (p : A → Bool) (l : List A) (i n : ℕ) : Typ
   pub few : n ≤ i
   pub is : n + how_many p (drop i l) ≡ how_many p l
 
-pub counting_start : {A : Type 0} (p : A → Bool) (l : List A) → Counting p l 0 0
-counting_start p l = record { high = zero-le; few = zero-le; is = omega arith }
-
 pub counting_step : {A : Type 0} {p : A → Bool} {l : List A} {i n : ℕ} (d : A) (b : Bool)
     → Counting p l i n → i < length l → b ≡ p (get_or l i d) → Counting p l (i + 1) (n + bool_byte b)
 unfolding how_many
@@ -59,14 +56,6 @@ counting_step {A} {p} {l} {i} {n} d b w h e =
     let bound : bool_byte b ≤ 1 = byte_most b in
     let next : how_many p (drop (i + 1) l) ≡ how_many p (drop (suc i) l) = rw add-one in
     record { high = omega arith; few = omega arith; is = omega arith }
-
--- the sum of a turn fits
-pub counting_fits : {A : Type 0} {p : A → Bool} {l : List A} {i n : ℕ} (b : Bool) → Counting p l i n → i < length l
-    → length l < 2 ^ 64 → n + bool_byte b < 2 ^ 64
-counting_fits {n = n} b w h k =
-    let few = w.few in
-    let bound = byte_most b in
-    omega arith
 
 pub counting_done : {A : Type 0} {p : A → Bool} {l : List A} {i n : ℕ} → Counting p l i n → length l ≤ i
     → n ≡ how_many p l

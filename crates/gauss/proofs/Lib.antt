@@ -1,4 +1,6 @@
 pub mod Tables
+pub mod WithinRow
+pub mod PartWalks
 pub mod RowWalks
 pub mod Epsilons
 pub mod Solving

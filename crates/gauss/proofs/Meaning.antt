@@ -51,6 +51,7 @@ attempt_sound size n m = one_of (Sound size) (left_solved size done) solved (ref
           blanks = λ r e. absurd (refused_not_accepted r (sym e));
         }
 
+-- what every answer of a system is
 pub sound : (left : Matrix) (right : Vector) (size : ℕ) → Sound size (solution left right size)
 unfolding solution first_answer
 sound left right size = go (size_asked size)

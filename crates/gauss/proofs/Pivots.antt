@@ -170,6 +170,7 @@ column_turn size k s h = go (eq (entry s.1 i k) f64_zero) (cleared_below size s.
     go true t = omega arith
     go false t = omega arith
 
+-- there are no more pivots than columns
 pub pivots_at_most_columns : (size k : ℕ) (m : Matrix) → (for_range (echelon_column size) 0 k (0, m)).0 ≤ k
 pivots_at_most_columns size k m =
     for_range_keeps (λ k s. s.0 ≤ k) (echelon_column size) 0 k (0, m) zero-le zero-le
@@ -220,6 +221,7 @@ module _ (p : Vector) (h i : ℕ) (other : h ≢ i) where
       let last = entry_alike factor 20 (for_range (subtract_entry p i factor) start size m) kept in
       (ap (subtract_entry_anew h i factor 20) same ∙ last.0, last.1)
 
+-- read anew at each row, the pivot row gives the same
 pub pivot_row_stays : (size h k : ℕ) (m : Matrix)
     → for_range (clear_row_anew h size k) (h + 1) size m ≡ cleared_below size h k m
 unfolding cleared_below
@@ -237,6 +239,7 @@ pivot_row_stays size h k m = for_range_alike (λ i t. row t h ≡ p) (clear_row 
         let alike = row_alike p h i other size (k + 1) (factor p) cleared (elsewhere p h i other k f64_zero t e) in
         (ap (λ (p : Vector). row_subtracted_anew h size i (k + 1) (factor p) cleared) e ∙ alike.0, alike.1)
 
+-- and so does the row found, above it
 pub found_row_stays : (size i j : ℕ) (m : Matrix)
     → for_range (clear_row_above_anew i size j) 0 i m ≡ cleared_above size i j m
 unfolding cleared_above

@@ -1,2 +1,3 @@
 pub mod Elimination
 pub mod Solutions
+pub mod Inner

@@ -6,8 +6,8 @@
 
 ghost use Rattle.std.specs.Prelude.{◌≡◌, ◌≤◌, ◌<◌};
 ghost use Rattle.gauss.specs.Elimination.{swapped, diagonal_filled, left_solved, solved_at, echeloned, pivot_row};
-ghost use Rattle.gauss.specs.Elimination.{row_subtracted, cleared_below, row_divided, reduced};
-ghost use Rattle.gauss.specs.Elimination.{cleared_above, backfilled};
+ghost use Rattle.gauss.specs.Elimination.{cleared_below, reduced, cleared_above, backfilled};
+ghost use Rattle.gauss.specs.Inner.Rows.{row_joined, subtracted, divided};
 ghost use Rattle.gauss.specs.Solutions.{joined, values, attempt, solution};
 
 use columns::Refusal;
@@ -117,19 +117,23 @@ pub fn solve_at(
     Err(Refusal::Unsolved)
 }
 
-// The table of a system: each row of `left` up to the size, with its number of `right`. By index: what
-// `copy_from_slice` writes into a part of a row of a table is not known to a proof.
+// The table of a system: each row of `left` up to the size, with its number of `right`.
 fn join(left: &[[f64; 20]; 20], right: &[f64; 20], size: Size) -> Table
     ensures { result ≡ joined left.now right.now size.rows }
 {
     let mut m = [[0.0; 21]; 20];
-    for i in 0..size.rows {
-        for j in 0..size.rows {
-            m[i][j] = left[i][j];
-        }
-        m[i][20] = right[i];
+    for (i, row) in m[..size.rows].iter_mut().enumerate() {
+        join_row(row, &left[i], right[i], size);
     }
     m
+}
+
+// A row of the table, with its right-hand number.
+fn join_row(row: &mut [f64; 21], left: &[f64; 20], right: f64, size: Size)
+    ensures { row.new ≡ row_joined left.now right size.rows row.old }
+{
+    row[..size.rows].copy_from_slice(&left[..size.rows]);
+    row[20] = right;
 }
 
 // By index: row and column are one number.
@@ -209,30 +213,30 @@ fn pivot_row(m: &Table, size: Size, h: usize, k: usize) -> usize
     }
 }
 
-// Clears column k below the pivot row h, which is copied once. By index: `subtract` takes the table and the number of
-// a row, as its definition does; so in `clear_above`.
+// Clears column k below the pivot row h, which is copied once.
 fn clear_below(m: &mut Table, size: Size, h: usize, k: usize)
     requires { (h < size.rows) × (k < size.rows) }
     ensures { m.new ≡ cleared_below size.rows h k m.old }
 {
     let p = m[h];
-    for i in h + 1..size.rows {
-        let factor = m[i][k] / p[k];
-        m[i][k] = 0.0;
-        subtract(m, &p, size, i, k + 1, factor);
+    for row in &mut m[h + 1..size.rows] {
+        let factor = row[k] / p[k];
+        row[k] = 0.0;
+        subtract(row, &p, size, k + 1, factor);
     }
 }
 
-// Takes factor times the row p from row i, from column j on, and from its right-hand number. By index: what is written
-// behind `iter_mut().zip()` is not known to a proof.
-fn subtract(m: &mut Table, p: &[f64; 21], size: Size, i: usize, j: usize, factor: f64)
-    requires { (i < 20) × (j ≤ size.rows) }
-    ensures { m.new ≡ row_subtracted p.now size.rows i j factor m.old }
+// Takes factor times the row p from a row, from column j on, and from its right-hand number. By index: what is written
+// behind `iter_mut().zip()` is not known to a proof, and over `iter_mut().enumerate()` a system of twenty takes 4 to 6%
+// longer to solve.
+fn subtract(row: &mut [f64; 21], p: &[f64; 21], size: Size, j: usize, factor: f64)
+    requires { j ≤ size.rows }
+    ensures { row.new ≡ subtracted p.now size.rows j factor row.old }
 {
     for c in j..size.rows {
-        m[i][c] -= p[c] * factor;
+        row[c] -= p[c] * factor;
     }
-    m[i][20] -= p[20] * factor;
+    row[20] -= p[20] * factor;
 }
 
 // Each row is divided by its first nonzero entry. Nested loops left by a label: so this project writes such walks. By
@@ -246,23 +250,23 @@ fn reduce(mut m: Table, size: Size) -> Table
             if x == 0.0 {
                 continue;
             }
-            divide(&mut m, size, i, j, x);
+            divide(&mut m[i], size, j, x);
             continue 'rows;
         }
     }
     m
 }
 
-// Divides row i by x, from column j on, and its right-hand number. By index: over the row's slice a system of twenty
+// Divides a row by x, from column j on, and its right-hand number. By index: over the row's slice a system of twenty
 // takes 2 to 4% longer to solve.
-fn divide(m: &mut Table, size: Size, i: usize, j: usize, x: f64)
-    requires { (i < 20) × (j ≤ size.rows) }
-    ensures { m.new ≡ row_divided size.rows i j x m.old }
+fn divide(row: &mut [f64; 21], size: Size, j: usize, x: f64)
+    requires { j ≤ size.rows }
+    ensures { row.new ≡ divided size.rows j x row.old }
 {
     for k in j..size.rows {
-        m[i][k] /= x;
+        row[k] /= x;
     }
-    m[i][20] /= x;
+    row[20] /= x;
 }
 
 // Solves the upper triangular matrix: the column of each row's first nonzero entry is cleared above it, in a walk like
@@ -288,8 +292,8 @@ fn clear_above(m: &mut Table, size: Size, i: usize, j: usize)
     ensures { m.new ≡ cleared_above size.rows i j m.old }
 {
     let p = m[i];
-    for k in 0..i {
-        let factor = m[k][j] / p[j];
-        subtract(m, &p, size, k, 0, factor);
+    for row in &mut m[..i] {
+        let factor = row[j] / p[j];
+        subtract(row, &p, size, 0, factor);
     }
 }

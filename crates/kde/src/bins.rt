@@ -68,7 +68,7 @@ pub fn bin_scores(
     Ok(estimator)
 }
 
-// The host's two densities, taken at the scores of the bins. A contract sees the record of them.
+// The host's two densities, taken at the scores of the bins, as C has them. A contract sees the record of them.
 #[derive(Drop)]
 pub struct Densities<'a> {
     pub decoy: &'a [f64],
@@ -111,7 +111,8 @@ fn raise(bins: &mut [f64])
     }
 }
 
-// The bins, from the number of decoys and that of all that take part.
+// The bins, from the number of decoys and that of all that take part. `monotonic` is the flag of sage's Builder.
+// `bins` is the result, and so no part of the densities.
 fn build_bins(
     builder: Builder,
     decoys: usize,
@@ -167,7 +168,7 @@ pub fn posterior_bins(
 }
 
 // Step two over a competition's slots: 1 is a decoy, 0 a target, and a slot that holds neither, as an unseen one does,
-// takes no part. The flags are numbers, since C has them so.
+// takes no part. The flags are numbers, since C has them so, of another type than labels.
 pub fn slot_posterior_bins(
     builder: Builder,
     is_decoy: &[u32],

@@ -101,7 +101,7 @@ pub struct Estimator {
 }
 
 impl Estimator {
-    // What stands for the estimator where `bin_scores` refuses: two NaN.
+    // What C gets for the estimator where `bin_scores` refuses: two NaN.
     pub fn refused() -> Self
         ensures { result ≡ estimator nan nan }
     {

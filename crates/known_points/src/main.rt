@@ -1,5 +1,6 @@
 // Runs document 01's known points, marked or not, and prints one line a point; `stdout` holds what the document says.
-// Floats are printed by their bits. Lists are arrays, so that nothing is assumed of C's memory.
+// Floats are printed by their bits. Lists are arrays, as long as their points say, so that nothing is assumed of C's
+// memory.
 #![tactic(auto)]
 
 ghost use Rattle.std.specs.Prelude.{◌<◌};

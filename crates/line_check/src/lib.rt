@@ -1,5 +1,6 @@
 // The line check (document 01, module 7), which sage does not have. One pass: it counts up to the line, keeps those
-// counts, and goes on to the end, where the last later row that qualifies is known.
+// counts, and goes on to the end, where the last later row that qualifies is known. A label is C's i32, of which −1
+// alone is a decoy.
 #![tactic(auto)]
 
 ghost use Rattle.std.specs.Prelude.{◌≡◌, ◌≤◌, max, length};
@@ -24,7 +25,8 @@ pub struct Counts {
     pub targets: usize,
 }
 
-// What is said of a line: whether it is right, with the counts that the answer carries.
+// What is said of a line: whether it is right, with the counts that the answer carries. Document 01 has this enum, and
+// no Result: a wrong line is an answer too.
 #[derive(Clone, Copy, Debug, PartialEq, Eq, Hash)]
 pub enum Line {
     Right(Counts),
@@ -97,7 +99,7 @@ fn count_to(labels: &[i32], row: usize) -> Counts
 // The counts at the last row after `own` that qualifies, or those of `own` if none does. The pass goes on where `own`
 // ends.
 // The bound on the list's length is a `requires` here and in `judge`, and no struct's: `right_line`, which is public,
-// would have to ask for the same bound to build one.
+// would have to ask for the same bound to build one. A list and its rate stay two arguments, as they come.
 fn last_later(labels: &[i32], own: Counts, rate: Rate) -> Counts
     requires labels_len_bound { length labels.now ≤ longest }
     requires row_in_bounds { own.row ≤ length labels.now }

@@ -2,22 +2,17 @@
 -- table, entry by entry.
 use mathlib.Core.Path.{◌≡◌, refl, sym, ap, ◌∙◌}
 use mathlib.Core.Bool.{Bool, true, false, cond}
-use Prim.Native.Nat.{ℕ, ◌+◌, ◌-◌, ◌*◌, ◌/◌, ◌≤◌, ◌<◌, zero-le}
+use Prim.Native.Nat.{ℕ, ◌+◌, ◌*◌, ◌/◌, ◌≤◌, ◌<◌, zero-le}
 use native.Mathlib.Omega.{arith}
 use lib.Dec.{ltb}
-use lib.ListN.{length, get_or, set, take, drop}
-use lib.Seq.{get_or-take, get_or-drop}
+use lib.ListN.{length, get_or, set}
 use lib.Ieee.{Float, nan}
 use Rattle.folds.specs.Walks.{steps, for_range}
 use Rattle.folds.specs.Lists.{tabulated}
 use Rattle.folds.proofs.Writing.{length_tabulated, tabulated_same, tabulated_at}
 use Rattle.gauss.specs.Elimination.{Vector, Matrix, row, entry}
 use Rattle.linear_discriminant.specs.Inner.Passes.{add_kept_product, accumulated_at, accumulated, pair_added, kept_added, stored_width, half_table}
-use Rattle.folds.proofs.Walks.{for_range_last}
-
--- number d of the part of a row from j on
-pub part_at : (r : Vector) (j w d : ℕ) → d < w → get_or (take (j + w - j) (drop j r)) d nan ≡ get_or r (j + d) nan
-part_at r j w d h = get_or-take (j + w - j) (drop j r) d nan (omega arith) ∙ get_or-drop j r d nan
+use Rattle.folds.proofs.Walks.{Walk, step_by, done, for_range_last}
 
 module _ (w : ℕ) (kept : Matrix) (j start : ℕ) (table : Matrix) where
   pub length_accumulated : (g : ℕ) {a : Vector} → a ≡ accumulated w kept g j start table → length a ≡ 12
@@ -36,11 +31,11 @@ module _ (w : ℕ) (kept : Matrix) (j start : ℕ) (table : Matrix) where
   abbrev added : Vector → Vector → Vector
   added r a = tabulated (λ d. cond (ltb d w) (add_kept_product j (start + d) r (get_or a d nan)) (get_or a d nan)) 0 12
 
-  pub accumulated_more : (g : ℕ) {r a₀ a : Vector} → r ≡ row kept g → a₀ ≡ accumulated w kept g j start table
-      → a ≡ added r a₀
+  pub accumulated_more : (g : ℕ) {a₀ a : Vector} → a₀ ≡ accumulated w kept g j start table
+      → a ≡ added (row kept g) a₀
       → a ≡ accumulated w kept (g + 1) j start table
   unfolding accumulated
-  accumulated_more g {a₀ = a₀} q p e = e ∙ ap (λ (r : Vector). added r a₀) q ∙ tabulated_same 12 (λ d h. at d h)
+  accumulated_more g {a₀ = a₀} p e = e ∙ tabulated_same 12 (λ d h. at d h)
     where
       go : (b : Bool) (f : Float → Float) (x y z v : Float) → v ≡ cond b x z → y ≡ f x → cond b (f v) v ≡ cond b y z
       go true f x y z v q r = ap f q ∙ sym r
@@ -62,6 +57,26 @@ unfolding pair_added
 pair_done w kept j table g m h l p q =
     let z : g ≡ m = omega arith in
     rw (p, q, z)
+
+-- ---- every second number, as a walk over the places counted in pairs
+
+pub record Evens {S : Type 0} (f : ℕ → S → S) (a j n : ℕ) (s₀ s : S) : Type 0 where
+  pub pair : ℕ
+  pub twice : j ≡ 2 * pair
+  pub walk : Walk (λ p. f (2 * p)) a pair n s₀ s
+
+pub evens_step : {S : Type 0} {f : ℕ → S → S} {a j n : ℕ} {s₀ s t : S} → Evens f a j n s₀ s → j < 2 * n → t ≡ f j s
+    → Evens f a (j + 2) n s₀ t
+evens_step {f = f} {n = n} {s = s} w h e =
+    let z = w.twice in
+    let l : w.pair < n = omega arith in
+    record { pair = w.pair + 1; twice = omega arith; walk = step_by w.walk l (e ∙ ap (λ (i : ℕ). f i s) z) }
+
+pub evens_done : {S : Type 0} {f : ℕ → S → S} {a j n : ℕ} {s₀ s : S} → Evens f a j n s₀ s → 2 * n ≤ j
+    → s ≡ for_range (λ p. f (2 * p)) a n s₀
+evens_done w h =
+    let z = w.twice in
+    done w.walk (omega arith)
 
 -- ---- a whole table
 

@@ -9,8 +9,8 @@ use Prim.Native.Nat.{ℕ, zero, suc, ◌+◌, ◌-◌, ◌≤◌, ◌<◌, zero-
 use native.Mathlib.Nat.{le_refl, ne_of_lt}
 use native.Mathlib.Omega.{arith}
 use lib.IntN.{ℤ, pos}
-use lib.ListN.{length, get_or, set, length-set}
-use lib.Seq.{get_or-set_same, get_or-set_other}
+use lib.ListN.{length, take, get_or, set, length-set}
+use lib.Seq.{get_or-set_same, get_or-set_other, get_or-take, length-take-le}
 use lib.Ieee.{Float}
 use borrow.Author.Tests.{eq-eqb, ne_eqb}
 use Rattle.folds.specs.Walks.{steps, for_range}
@@ -78,20 +78,21 @@ module _ {takes : ℕ → Bool} {r : ℕ → Vector} {state : ℕ → Matrix} {t
       record { from = w.from; low = omega arith; is = w.is; tall = length-set rows m v ∙ w.tall; few = omega arith; same = more e f }
 
   pub kept_add : Adds takes r state → takes i ≡ true → {v : Vector} {table' : Matrix} → v ≡ r i → 15 ≤ m
-      → table' ≡ kept_added (set rows m v) 16 table
+      → table' ≡ kept_added (set rows m v) (length (set rows m v)) table
       → Kept takes r state table' (set rows m v) 0 (i + 1)
   unfolding steps
   kept_add adds e {v} f l t =
       let low = w.low in
       let few = w.few in
-      let z : m + 1 ≡ 16 = omega arith in
+      let long = length-set rows m v ∙ w.tall in
+      let z : m + 1 ≡ length (set rows m v) = omega arith in
       record {
         from = i + 1;
         low = le_refl (i + 1);
         is = t
-            ∙ ap (kept_added (set rows m v) 16) w.is
-            ∙ adds (set rows m v) 16 w.from (i + 1) (omega arith) (subst (λ (n : ℕ). KeptRowsAre takes r (set rows m v) n w.from (i + 1)) z (more e f));
-        tall = length-set rows m v ∙ w.tall;
+            ∙ ap (kept_added (set rows m v) (length (set rows m v))) w.is
+            ∙ adds (set rows m v) (length (set rows m v)) w.from (i + 1) (omega arith) (subst (λ (n : ℕ). KeptRowsAre takes r (set rows m v) n w.from (i + 1)) z (more e f));
+        tall = long;
         few = omega arith;
         same = λ h s. sym (none h s);
       }
@@ -103,8 +104,20 @@ module _ {takes : ℕ → Bool} {r : ℕ → Vector} {state : ℕ → Matrix} {t
           ap (λ (k : ℕ). steps (λ i s. cond (takes i) (h (r i) s) s) (i + 1) k s) z
 
   -- what is still kept is added in the end
-  pub kept_end : Adds takes r state → {table' : Matrix} → table' ≡ kept_added rows m table → table' ≡ state i
-  kept_end adds t = t ∙ ap (kept_added rows m) w.is ∙ adds rows m w.from i w.low w.same
+  pub kept_end : Adds takes r state → {table' : Matrix} → table' ≡ kept_added (take m rows) (length (take m rows)) table
+      → table' ≡ state i
+  kept_end adds t =
+      let few = w.few in
+      let long : length (take m rows) ≡ m = length-take-le m rows (omega (arith, w.tall)) in
+      t
+      ∙ ap (kept_added (take m rows) (length (take m rows))) w.is
+      ∙ adds (take m rows) (length (take m rows)) w.from i w.low
+      (subst (λ (n : ℕ). KeptRowsAre takes r (take m rows) n w.from i) (sym long) part)
+    where
+      part : KeptRowsAre takes r (take m rows) m w.from i
+      part h sum =
+          for_range_same 0 m sum (λ g l u s. ap (λ (x : Vector). h x s) (get_or-take m rows g [] u))
+          ∙ w.same h sum
 
 -- ---- both classes
 
@@ -190,7 +203,7 @@ module _ {labels : List ℤ} {r : ℕ → ℕ → Vector} {state : ℕ → ℕ �
   }
 
   pub gathered_add : Adds (in_class labels c) (r c) (state c) → {t : Matrix} → 15 ≤ get_or filled c 0
-      → t ≡ kept_added (get_or kept_now c []) 16 (get_or tables c [])
+      → t ≡ kept_added (get_or kept_now c []) (length (get_or kept_now c [])) (get_or tables c [])
       → Gathered labels r state (set tables c t) kept_now (set filled c 0) (i + 1)
   gathered_add adds {t} l e = record {
     high = omega arith;
@@ -199,7 +212,7 @@ module _ {labels : List ℤ} {r : ℕ → ℕ → Vector} {state : ℕ → ℕ �
     both = length-set filled c 0 ∙ w.both;
     each_class = each (set tables c t) kept_now (set filled c 0)
         (rw (get_or-set_same tables c t [] (fits tables w.two), now, get_or-set_same filled c 0 0 (fits filled w.both))
-        (kept_add (w.each_class c small) adds mine centred l (e ∙ ap (λ (k : Matrix). kept_added k 16 (get_or tables c [])) now)))
+        (kept_add (w.each_class c small) adds mine centred l (e ∙ ap (λ (k : Matrix). kept_added k (length k) (get_or tables c [])) now)))
         (λ d p. get_or-set_other tables c d t [] p)
         (λ d p. get_or-set_other kept c d (set (get_or kept c []) (get_or filled c 0) v) [] p)
         (λ d p. get_or-set_other filled c d 0 0 p);
@@ -208,13 +221,17 @@ module _ {labels : List ℤ} {r : ℕ → ℕ → Vector} {state : ℕ → ℕ �
       now : get_or kept_now c [] ≡ set (get_or kept c []) (get_or filled c 0) v
       now = get_or-set_same kept c (set (get_or kept c []) (get_or filled c 0) v) [] (fits kept w.pair)
 
+-- what class c still keeps
+abbrev pub still : List Matrix → List ℕ → ℕ → Matrix
+still kept filled c = take (get_or filled c 0) (get_or kept c [])
+
 -- what both classes still keep is added
 pub gathered_end : {labels : List ℤ} {r : ℕ → ℕ → Vector} {state : ℕ → ℕ → Matrix} {tables kept : List Matrix}
     {filled : List ℕ} {i : ℕ}
     → Gathered labels r state tables kept filled i → length labels ≤ i
     → ((c : ℕ) → Adds (in_class labels c) (r c) (state c)) → {s t : Matrix}
-    → s ≡ kept_added (get_or kept 0 []) (get_or filled 0 0) (get_or tables 0 [])
-    → t ≡ kept_added (get_or kept 1 []) (get_or filled 1 0) (get_or (set tables 0 s) 1 [])
+    → s ≡ kept_added (still kept filled 0) (length (still kept filled 0)) (get_or tables 0 [])
+    → t ≡ kept_added (still kept filled 1) (length (still kept filled 1)) (get_or (set tables 0 s) 1 [])
     → set (set tables 0 s) 1 t ≡ tabulated (λ c. state c (length labels)) 0 2
 unfolding tabulated
 gathered_end {labels} {r} {state} {tables} {kept} {filled} {i} w h adds {s} {t} e f =
@@ -223,4 +240,4 @@ gathered_end {labels} {r} {state} {tables} {kept} {filled} {i} w h adds {s} {t} 
     stored_pair tables s t w.two
     ∙ ap (λ (x : Matrix). x ∷ t ∷ []) (kept_end (w.each_class 0 (omega arith)) (adds 0) e ∙ ap (state 0) z)
     ∙ ap (λ (x : Matrix). state 0 (length labels) ∷ x ∷ [])
-    (kept_end (w.each_class 1 (omega arith)) (adds 1) (f ∙ ap (kept_added (get_or kept 1 []) (get_or filled 1 0)) (get_or-set_other tables 0 1 s [] (λ e. omega arith))) ∙ ap (state 1) z)
+    (kept_end (w.each_class 1 (omega arith)) (adds 1) (f ∙ ap (kept_added (still kept filled 1) (length (still kept filled 1))) (get_or-set_other tables 0 1 s [] (λ e. omega arith))) ∙ ap (state 1) z)

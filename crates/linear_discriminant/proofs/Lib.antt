@@ -1,5 +1,6 @@
 pub mod Made
 pub mod Products
+pub mod LabelledRows
 pub mod Questions
 pub mod Classes
 pub mod Sums

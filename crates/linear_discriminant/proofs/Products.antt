@@ -13,8 +13,8 @@ use Rattle.floats.specs.Constants.{f64_zero}
 use Rattle.linear_discriminant.specs.Rows.{add_product, scored}
 
 -- where the reading of two rows side by side ends, one of them has
-pub one_ended : {I : Type 0} {a b : I} {m n : ℕ}
-    → ((x : I) × ((m ≡ 0) × (x ≡ a))) ⊎ ((x : I) × ((n ≡ 0) × (x ≡ b)))
+pub one_ended : {I J : Type 0} {a : I} {b : J} {m n : ℕ}
+    → ((x : I) × ((m ≡ 0) × (x ≡ a))) ⊎ ((x : J) × ((n ≡ 0) × (x ≡ b)))
     → (m ≡ 0) ⊎ (n ≡ 0)
 one_ended (inl e) = inl e.1.0
 one_ended (inr e) = inr e.1.0
@@ -25,12 +25,12 @@ pub record Pairs (coefficients row ws xs : List Float) (sum : Float) : Type 0 wh
   pub right : xs ≡ drop place row
   pub walk : Walk (add_product coefficients (λ j. get_or row j nan)) 0 place 20 f64_zero sum
 
-some_left : (l : List Float) (k : ℕ) (v : Float) (r : List Float) → drop k l ≡ v ∷ r → length l ≡ 20 → k < 20
+pub some_left : {A : Type 0} (l : List A) (k : ℕ) (v : A) (r : List A) {n : ℕ} → drop k l ≡ v ∷ r → length l ≡ n → k < n
 some_left l k v r e n =
     let m : length (drop k l) ≡ suc (length r) = ap length e in
     omega (arith, length-drop k l)
 
-none_left : (l : List Float) (k : ℕ) → length (drop k l) ≡ 0 → length l ≡ 20 → 20 ≤ k
+pub none_left : {A : Type 0} (l : List A) (k : ℕ) {n : ℕ} → length (drop k l) ≡ 0 → length l ≡ n → n ≤ k
 none_left l k e n = omega (arith, length-drop k l)
 
 module _ {coefficients row ws xs : List Float} {sum : Float} (n : length coefficients ≡ 20)

@@ -1,5 +1,5 @@
 // The fit: LinearDiscriminantAnalysis::train, in two passes over the rows. Index 0 is the decoys', 1 the targets'.
-ghost use Rattle.std.specs.Prelude.{◌≡◌, ◌+◌, ◌*◌, ◌≤◌, length};
+ghost use Rattle.std.specs.Prelude.{◌≡◌, ◌≤◌, length};
 ghost use Rattle.columns.specs.Refusals.{longest};
 ghost use Rattle.gauss.specs.Solutions.{solution};
 ghost use Rattle.linear_discriminant.specs.Fit.{class_count, left_side, right_side};
@@ -68,19 +68,19 @@ fn sum_rows(rows: &Rows, sums: &mut [[f64; 20]; 2])
     ensures { let summed = summed_rows rows.now.features.now rows.now.labels.now in
         sums.new ≡ summed 0 (length rows.now.labels.now) sums.old }
 {
-    for (i, label) in rows.labels.iter().enumerate() {
+    let (features, _) = rows.features.as_chunks::<20>();
+    for (row, label) in features.iter().zip(rows.labels) {
         let c = crate::class_of(*label);
-        sums[c] = add_row(rows.features, i, &sums[c]);
+        sums[c] = add_row(row, &sums[c]);
     }
 }
 
-// A class's sums with row i added. The new sums are an array of their own, so that the compiler may add several at a
-// time.
-fn add_row(features: &[f64], i: usize, sum: &[f64; 20]) -> [f64; 20]
-    requires { 20 * i + 20 ≤ length features.now }
-    ensures { result ≡ added_row features.now i sum.now }
+// A class's sums with a row added, which the contract sees as a column of one row. The new sums are an array of their
+// own, so that the compiler may add several at a time.
+fn add_row(row: &[f64; 20], sum: &[f64; 20]) -> [f64; 20]
+    ensures { result ≡ added_row row.now 0 sum.now }
 {
-    std::array::from_fn(|j| sum[j] + features[20 * i + j])
+    std::array::from_fn(|j| sum[j] + row[j])
 }
 
 // A class's means.

@@ -1,6 +1,6 @@
 // Pass 2 of the fit: the scatter of each class, and the scatter within the classes. Scatter is symmetric, so a little
 // over half of it is summed: of row j twelve columns, or ten from row 10 on, from the even one at or below j.
-ghost use Rattle.std.specs.Prelude.{◌≡◌, [], ◌+◌, ◌*◌, ◌≤◌, ◌<◌, length, get_or};
+ghost use Rattle.std.specs.Prelude.{◌≡◌, [], ◌+◌, ◌≤◌, ◌<◌, length, get_or};
 ghost use Rattle.linear_discriminant.specs.Inner.Passes.{centred_row, pair_added, kept_added, half_tables, scatter_of};
 ghost use Rattle.linear_discriminant.specs.Inner.Passes.{stored_place, stored_width, within_row, within_table};
 
@@ -15,60 +15,57 @@ pub(crate) fn class_scatters(rows: &Rows, means: &[[f64; 20]; 2]) -> [[[f64; 12]
     let mut tables = [[[0.0; 12]; 20]; 2];
     let mut kept = [[[0.0; 28]; 16]; 2];
     let mut filled: [usize; 2] = [0; 2];
-    for (i, label) in rows.labels.iter().enumerate() {
+    let (features, _) = rows.features.as_chunks::<20>();
+    for (row, label) in features.iter().zip(rows.labels) {
         let c = crate::class_of(*label);
         let m = filled[c];
-        kept[c][m] = centred(rows.features, i, &means[c]);
+        kept[c][m] = centred(row, &means[c]);
         if m < 15 {
             filled[c] = m + 1;
             continue;
         }
-        add_kept(&mut tables[c], &kept[c], 16);
+        add_kept(&mut tables[c], &kept[c]);
         filled[c] = 0;
     }
-    let decoys = filled[0];
-    add_kept(&mut tables[0], &kept[0], decoys);
-    let targets = filled[1];
-    add_kept(&mut tables[1], &kept[1], targets);
+    add_kept(&mut tables[0], &kept[0][..filled[0]]);
+    add_kept(&mut tables[1], &kept[1][..filled[1]]);
     tables
 }
 
-// Row i less its class's means, and the first eight numbers once more.
-fn centred(features: &[f64], i: usize, mean: &[f64; 20]) -> [f64; 28]
-    requires { 20 * i + 20 ≤ length features.now }
-    ensures { result ≡ centred_row features.now i mean.now }
+// A row less its class's means, and the first eight numbers once more. A contract sees a row as a column of one.
+fn centred(features: &[f64; 20], mean: &[f64; 20]) -> [f64; 28]
+    ensures { result ≡ centred_row features.now 0 mean.now }
 {
-    let centred: [f64; 20] = std::array::from_fn(|j| features[20 * i + j] - mean[j]);
+    let centred: [f64; 20] = std::array::from_fn(|j| features[j] - mean[j]);
     let mut row = [0.0; 28];
     row[..20].copy_from_slice(&centred);
     row[20..].copy_from_slice(&centred[..8]);
     row
 }
 
-// The first m kept rows are added to a class's table: twelve columns of the first ten rows, ten of the others. p counts
-// pairs of rows.
-fn add_kept(table: &mut [[f64; 12]; 20], kept: &[[f64; 28]; 16], m: usize)
-    requires { m ≤ 16 }
-    ensures { table.new ≡ kept_added kept.now m table.old }
+// Kept rows are added to a class's table, two of its rows at a time: twelve columns of the first ten rows, ten of the
+// others.
+fn add_kept(table: &mut [[f64; 12]; 20], kept: &[[f64; 28]])
+    ensures { table.new ≡ kept_added kept.now (length kept.now) table.old }
 {
-    for p in 0..5 {
-        add_pair(table, kept, m, 2 * p, 12);
+    for j in (0..10).step_by(2) {
+        add_pair(table, kept, j, 12);
     }
-    for p in 5..10 {
-        add_pair(table, kept, m, 2 * p, 10);
+    for j in (10..20).step_by(2) {
+        add_pair(table, kept, j, 10);
     }
 }
 
-// The first m kept rows are added to table rows j and j + 1, whose sums stay in registers until the last is added. The
-// two rows are copied number by number, since a proof does not know how long a row of a table is; both sums are written
-// at one index, since what is written behind `iter_mut().zip()` is not known to a proof.
-fn add_pair(table: &mut [[f64; 12]; 20], kept: &[[f64; 28]; 16], m: usize, j: usize, width: usize)
-    requires { (m ≤ 16) × (j < 19) × (width ≤ 12) × (j + width ≤ 28) }
-    ensures { table.new ≡ pair_added width kept.now m j table.old }
+// Kept rows are added to table rows j and j + 1, whose sums stay in registers until the last is added. The two rows are
+// copied number by number, since a proof does not know how long a row of a table is; both sums are written at one
+// index, since what is written behind `iter_mut().zip()` is not known to a proof.
+fn add_pair(table: &mut [[f64; 12]; 20], kept: &[[f64; 28]], j: usize, width: usize)
+    requires { (j < 19) × (width ≤ 12) × (j + width ≤ 28) }
+    ensures { table.new ≡ pair_added width kept.now (length kept.now) j table.old }
 {
     let mut a: [f64; 12] = std::array::from_fn(|d| table[j][d]);
     let mut b: [f64; 12] = std::array::from_fn(|d| table[j + 1][d]);
-    for row in &kept[..m] {
+    for row in kept {
         let x = row[j];
         let y = row[j + 1];
         for (d, z) in row[j..j + width].iter().enumerate() {

@@ -1,11 +1,11 @@
 // A row's score: LinearDiscriminantAnalysis::score. The scoring run: the part of score_psms that scores every row.
-ghost use Rattle.std.specs.Prelude.{◌≡◌, ◌*◌, ◌≤◌, ◌<◌, length, get_or};
+ghost use Rattle.std.specs.Prelude.{◌≡◌, ◌*◌, length, get_or};
 ghost use Rattle.std.specs.Float.{nan};
 ghost use Rattle.folds.specs.Lists.{tabulated};
 ghost use Rattle.linear_discriminant.specs.Rows.{scored};
 ghost use Rattle.linear_discriminant.specs.Scores.{score_at, narrowed_at, all_finite};
 ghost use Rattle.linear_discriminant.specs.Scores.{scoring_run, score_rows_asked, scored_rows};
-ghost use Rattle.linear_discriminant.specs.Inner.Blocks.{written, narrowed_score};
+ghost use Rattle.linear_discriminant.specs.Inner.Blocks.{narrowed_score};
 
 use columns::Refusal;
 
@@ -77,41 +77,36 @@ fn score_all(coefficients: &[f64; 20], features: &[f64], scores: &mut [f64], nar
     let rows = scores.len();
     for from in (0..rows).step_by(128) {
         let to = from + (rows - from).min(128);
-        score_block(coefficients, features, scores, from, to);
-        narrow_block(scores, narrowed, from, to);
+        score_block(
+            coefficients,
+            &features[20 * from..20 * to],
+            &mut scores[from..to],
+        );
+        narrow_block(&scores[from..to], &mut narrowed[from..to]);
     }
 }
 
-// The scores of the rows from `from` up to `to`, at their places in the whole column: in a slice of the block the row
-// would be `from + i`. The features are read by index, since `zip` over a row's slice is 1.4 times as slow.
-fn score_block(
-    coefficients: &[f64; 20],
-    features: &[f64],
-    scores: &mut [f64],
-    from: usize,
-    to: usize,
-)
-    requires { (from ≤ to) × (to ≤ length scores.old) × (length features.now ≡ 20 * length scores.old) }
+// The scores of a block's rows. The features are read by index, since `zip` over a row's slice is 1.4 times as slow.
+fn score_block(coefficients: &[f64; 20], features: &[f64], scores: &mut [f64])
+    requires { length features.now ≡ 20 * length scores.old }
     ensures { let score = score_at coefficients.now features.now in
-        scores.new ≡ written score from to scores.old }
+        scores.new ≡ tabulated score 0 (length scores.old) }
 {
-    for i in from..to {
+    for (i, score) in scores.iter_mut().enumerate() {
         let mut sum = 0.0;
         for (j, w) in coefficients.iter().enumerate() {
             sum += w * features[20 * i + j];
         }
-        scores[i] = sum;
+        *score = sum;
     }
 }
 
-// Those scores, narrowed, by index: both columns are whole, and a block's rows stand at one place in each. Its ends are
-// two numbers: a range of its own would need `from ≤ to` as well.
-fn narrow_block(scores: &[f64], narrowed: &mut [f32], from: usize, to: usize)
-    requires { (from ≤ to) × (to ≤ length scores.now) × (length narrowed.old ≡ length scores.now) }
-    ensures { let score = narrowed_score scores.now in
-        narrowed.new ≡ written score from to narrowed.old }
+// Those scores, narrowed. They are read by index: what is written behind `iter_mut().zip()` is not known to a proof.
+fn narrow_block(scores: &[f64], narrowed: &mut [f32])
+    requires { length narrowed.old ≡ length scores.now }
+    ensures { narrowed.new ≡ tabulated (narrowed_score scores.now) 0 (length narrowed.old) }
 {
-    for i in from..to {
-        narrowed[i] = floats::narrow(scores[i]);
+    for (i, score) in narrowed.iter_mut().enumerate() {
+        *score = floats::narrow(scores[i]);
     }
 }

@@ -22,7 +22,8 @@ fn ask(labels: usize, scores: usize, keys: usize, spare: usize, q: usize) -> Res
 }
 
 // Q-values of precursors, at their original places, and how many targets have one of at most 0.05. The rows are ranked
-// by their peak scores as f32. `keys` and `spare` are working columns, two as the C interface has them; see D64.
+// by their peak scores as f32. A label is C's i32, of which −1 alone is a decoy. `keys` and `spare` are working
+// columns, two as the C interface has them; see D64.
 pub fn picked_precursor(
     labels: &[i32],
     scores: &[f64],

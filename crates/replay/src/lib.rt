@@ -20,7 +20,8 @@ use std::num::{
 use std::rt::Files;
 use std::{fs, io};
 
-// A number as it is recorded. Each type has functions of its own for its bits, so each has an impl of its own.
+// A number as it is recorded. Each type has functions of its own for its bits, so each has an impl of its own; the two
+// bodies of `read_bits`, by width, would need a trait for the width to be one.
 pub trait Recorded: Copy {
     // how many bytes it has, and its bits and the number at the head of some bytes, with zeros past their end
     ghost width: { ℕ };
@@ -189,6 +190,7 @@ impl<'a> Recording<'a> {
         bytes
     }
 
+    // u32 and u64 have each a `from_le_bytes` of their own.
     fn next_u32(&mut self) -> u32
         ensures number { result ≡ from_le_bytes w32 self.old }
         ensures rest { self.new ≡ drop 4 self.old }
@@ -287,13 +289,13 @@ impl<'a> Recording<'a> {
         answer == Ok(recorded)
     }
 
-    // The number of cases of a recording, 0 where it is none.
-    fn read_cases(&mut self) -> usize {
+    // How many cases a recording has; none where it has more than any, as what is no recording does.
+    fn read_cases(&mut self) -> Option<usize> {
         let cases = self.next_u64();
         if cases > MOST_CASES {
-            return 0;
+            return None;
         }
-        cases as usize
+        Some(cases as usize)
     }
 
     // Whether the end of a recording comes next, and nothing after it.
@@ -322,7 +324,7 @@ fn bytes_of<R: Files + Print + AllocGlobal>(rt: &R, file: &str) -> io::Result<Ve
 }
 
 // Replays the cases of a file, and prints how many there are and how many differ. Another line is printed where the
-// file does not end after them.
+// file does not end after them. A step takes the runtime's allocator and the recording, which have nothing in common.
 pub fn replayed<R, F>(rt: &R, file: &str, same_case: F) -> io::Result<()>
 where
     R: Files + Print + AllocGlobal,
@@ -331,8 +333,9 @@ where
 {
     let bytes = bytes_of(rt, file)?;
     let mut recording = Recording { unread: &bytes };
-    let cases = recording.read_cases();
+    let cases = recording.read_cases().unwrap_or(0);
     let mut differing = 0usize;
+    // `case` counts how often; the proof that `differing` stays small names it
     for case in 0..cases {
         if !same_case(rt.alloc(), &mut recording)? {
             differing += 1;

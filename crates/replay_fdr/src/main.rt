@@ -41,7 +41,8 @@ impl Rows {
     }
 }
 
-// The columns of a table.
+// The columns of a table, as long as a case says. Those of known_points are arrays: a struct for both would need a type
+// for each column.
 #[derive(Drop)]
 struct Slots {
     forward: Vec<f32>,
@@ -110,6 +111,7 @@ fn same_q_values(
 
 // Whether the next table has the recorded answers.
 fn same_case(alloc: Global, recording: &mut Recording<'_>) -> Result<bool, AllocError> {
+    // numbers, as data/README.md has them
     let names = match recording.read::<u32>() {
         2 => Names::Two,
         _ => Names::One,

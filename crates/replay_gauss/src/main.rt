@@ -28,7 +28,8 @@ fn same_values(recording: &mut Recording<'_>, size: usize, values: &[f64; 20]) -
     same & replay::holds_only(&values[size..], 0.0)
 }
 
-// Whether the next system has the recorded answer, or the recorded refusal, after which C gets twenty NaN.
+// Whether the next system has the recorded answer, or the refusal with the recorded number, after which C gets twenty
+// NaN.
 fn same_system(recording: &mut Recording<'_>) -> bool {
     let size = recording.read_length();
     let left = read_left(recording, size);

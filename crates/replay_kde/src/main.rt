@@ -49,6 +49,7 @@ fn same_bins(
 
 // Whether the next build has the recorded answers.
 fn same_build(alloc: Global, recording: &mut Recording<'_>) -> Result<bool, AllocError> {
+    // a number, as data/README.md has it
     let monotonic = recording.read::<u32>() == 1;
     let bins = recording.read_length();
     let rows = recording.read_length();

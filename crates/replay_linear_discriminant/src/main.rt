@@ -1,4 +1,5 @@
 // Replays recorded answers of the Rust's LinearDiscriminantAnalysis: train and score. data/README.md has the layout.
+// Rows are arrays of twenty, as the calls take them.
 #![tactic(auto)]
 
 use replay::Recording;
@@ -8,8 +9,8 @@ use std::io;
 // No recorded list has more rows.
 const MOST_ROWS: usize = 60;
 
-// Whether the fit of the next list has the recorded coefficients, or the recorded refusal, after which C gets twenty
-// NaN.
+// Whether the fit of the next list has the recorded coefficients, or the refusal with the recorded number, after which
+// C gets twenty NaN.
 fn same_fit(alloc: Global, recording: &mut Recording<'_>) -> Result<bool, AllocError> {
     let rows = recording.read_length();
     if rows > MOST_ROWS {

@@ -1,4 +1,5 @@
-// Module 1, float helpers: two exports for each that has a width, since C has no generic functions.
+// Module 1, float helpers: two exports for each that has a width, since C has no generic functions. An order is −1, 0
+// or 1, since C has no enum for it.
 ghost use Rattle.std.specs.Prelude.{◌≡◌};
 ghost use Rattle.std.specs.Float.{binary32, binary64};
 ghost use Rattle.std.specs.Float.Ieee.{to_unsigned};

@@ -1,5 +1,6 @@
 // Module 4, posterior errors. C has no bool and no enum here: `monotonic` and `unit` are numbers, and a builder, an
-// estimator and a tolerance are passed by their parts.
+// estimator and a tolerance are passed by their parts. There is one export for labels and one for flags, whose columns
+// have other types.
 ghost use Rattle.std.specs.Prelude.{◌≡◌};
 ghost use Rattle.columns.specs.Refusals.{answer_number, answer_count, ◌and◌};
 ghost use Rattle.kde.specs.Bins.{fresh_builder, estimator, bin_scores_of, built_estimator};

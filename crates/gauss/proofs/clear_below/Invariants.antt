@@ -1,8 +1,10 @@
 -- `gauss::clear_below` meets its contract. The loop is the walk of `cleared_below` over the rows below h.
-use Prim.Native.Nat.{◌+◌}
-use Rattle.folds.proofs.Walks.{Walk}
+use Prim.Native.Nat.{◌+◌, ◌-◌}
 use Rattle.gauss.specs.Elimination.{clear_row}
+use Rattle.gauss.proofs.PartWalks.{PartWalk}
 use Rattle.gauss.proofs.clear_below.Given as goal
 
-abbrev pub invariant-loop-i : goal.invariant-loop-i
-invariant-loop-i l = Walk (clear_row l.p l.fn.size.rows l.k) (l.h + 1) l.i l.fn.size.rows l.initial.m l.m
+abbrev pub invariant-loop-row : goal.invariant-loop-row
+invariant-loop-row l =
+    let n = l.fn.size.rows in
+    PartWalk (clear_row l.p n l.k) (l.h + 1) (n - (l.h + 1)) n l.fn.m l.row-items l.row-index

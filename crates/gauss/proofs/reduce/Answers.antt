@@ -3,6 +3,7 @@
 use Rattle.folds.proofs.Walks.{walk_down_done}
 use Rattle.gauss.proofs.RowWalks.{row_walk_step, none_found, found}
 use Rattle.gauss.specs.Elimination.{divide_row, reduced}
+use Rattle.gauss.proofs.WithinRow.{divided_back}
 use borrow.Author.Rules.{rules}
 use Rattle.gauss.proofs.reduce.Goals as goal
 
@@ -16,7 +17,7 @@ loop-j-preserved c = row_walk_step c.loop-j.invariant (search rules) c.if-x.true
 pub rows-preserved-in-loop-j : goal.rows-preserved-in-loop-j
 rows-preserved-in-loop-j c =
     found (divide_row c.args.size.rows) c.loop-j.invariant c.rows.invariant (search rules) (search rules) c.if-x.false
-    c.divide.ensures
+    (divided_back _ _ _ _ _ c.divide.ensures)
 
 pub returns : goal.returns
 unfolding reduced

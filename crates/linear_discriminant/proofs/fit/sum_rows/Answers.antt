@@ -1,20 +1,25 @@
 -- `linear_discriminant::fit::sum_rows` meets its contract: a walk over the rows.
-use lib.IntN.{pos}
-use lib.ListN.{get_or}
+use mathlib.Core.Path.{◌∙◌}
 use borrow.Author.Rules.{rules}
 use Rattle.folds.proofs.Walks.{step_by, done}
 use Rattle.linear_discriminant.specs.Inner.Passes.{summed_rows}
-use Rattle.linear_discriminant.proofs.Classes.{class_given, sum_turn}
+use Rattle.linear_discriminant.proofs.Classes.{sum_turn}
+use Rattle.linear_discriminant.proofs.LabelledRows.{reading_step, reading_below, reading_class, reading_added, reading_done}
+use Rattle.linear_discriminant.proofs.Products.{one_ended}
 use Rattle.linear_discriminant.proofs.fit.sum_rows.Goals as goal
 
-pub loop-i-preserved : goal.loop-i-preserved
-loop-i-preserved c =
+pub loop-row-preserved : goal.loop-row-preserved
+loop-row-preserved c =
     let a = c.args in
-    let w = c.loop-i in
-    step_by w.invariant (search rules)
-    (sum_turn a.rows.now.features.now a.rows.now.labels.now w.i w.sums
-    (class_given (get_or a.rows.now.labels.now w.i (pos 0)) (search rules) c.class_of-c.ensures) c.add_row.ensures)
+    let w = c.loop-row.invariant in
+    let steps = c.in-Some.ensures.steps in
+    reading_step w steps.0 steps.1 (step_by w.is (reading_below w steps.0 steps.1)
+    (sum_turn a.rows.now.features.now a.rows.now.labels.now w.place c.loop-row.sums
+    (reading_class w steps.0 steps.1 (search rules) c.class_of-c.ensures)
+    (c.add_row.ensures ∙ reading_added w steps.0 steps.1 _)))
 
 pub returns : goal.returns
 unfolding summed_rows
-returns c = done c.loop-i.invariant (search rules)
+returns c =
+    let w = c.loop-row.invariant in
+    done w.is (reading_done w (search rules) (one_ended c.in-None.ensures.steps))

@@ -2,12 +2,12 @@
 -- by one, entry by entry, and the two are written back.
 use mathlib.Core.List.{[]}
 use Prim.Native.Nat.{◌+◌}
-use lib.ListN.{take, get_or}
-use lib.Seq.{get_or-take}
+use lib.ListN.{length, get_or}
 use lib.Ieee.{nan}
 use borrow.Author.Rules.{rules}
 use Rattle.folds.proofs.Writing.{rewriting_start, rewriting_step, rewriting_done}
-use Rattle.linear_discriminant.proofs.Accumulated.{part_at, length_accumulated, accumulated_none, accumulated_more, pair_done}
+use Rattle.linear_discriminant.proofs.Accumulated.{length_accumulated, accumulated_none, accumulated_more, pair_done}
+use Rattle.linear_discriminant.proofs.Blocks.{part_at}
 use Rattle.linear_discriminant.proofs.Made.{made_tabulated}
 use Rattle.linear_discriminant.proofs.scatter.add_pair.Goals as goal
 
@@ -34,8 +34,8 @@ pub loop-d-preserved : goal.loop-d-preserved
 loop-d-preserved c =
     let a = c.args in
     let w = c.loop-d in
-    let r = get_or (take a.m a.kept.now) c.loop-row.row-index [] in
-    let z = part_at r a.j a.width w.d (search rules) in (
+    let r = get_or a.kept.now c.loop-row.row-index [] in
+    let z = part_at r a.j (a.j + a.width) w.d nan (search rules) in (
       rewriting_step w.invariant.0 (search rules) (rw (w.invariant.0.after w.d (search rules), z)),
       rewriting_step w.invariant.1 (search rules) (rw (w.invariant.1.after w.d (search rules), z)),
       search rules,
@@ -45,15 +45,14 @@ pub loop-row-preserved : goal.loop-row-preserved
 loop-row-preserved c =
     let a = c.args in
     let w = c.loop-row in
-    let v = c.loop-d.invariant in
-    let r = get_or-take a.m a.kept.now w.row-index [] (search rules) in (
+    let v = c.loop-d.invariant in (
       search rules,
-      accumulated_more a.width a.kept.now a.j a.j a.table.now w.row-index r w.invariant.1 (rewriting_done v.0 (search rules) (search rules)),
-      accumulated_more a.width a.kept.now (a.j + 1) a.j a.table.now w.row-index r w.invariant.2 (rewriting_done v.1 (search rules) (search rules)),
+      accumulated_more a.width a.kept.now a.j a.j a.table.now w.row-index w.invariant.1 (rewriting_done v.0 (search rules) (search rules)),
+      accumulated_more a.width a.kept.now (a.j + 1) a.j a.table.now w.row-index w.invariant.2 (rewriting_done v.1 (search rules) (search rules)),
     )
 
 pub returns : goal.returns
 returns c =
     let a = c.args in
     let w = c.loop-row in
-    pair_done a.width a.kept.now a.j a.table.now w.row-index a.m (search rules) (search rules) w.invariant.1 w.invariant.2
+    pair_done a.width a.kept.now a.j a.table.now w.row-index (length a.kept.now) (search rules) (search rules) w.invariant.1 w.invariant.2

@@ -1,11 +1,9 @@
--- `linear_discriminant::scores::score_block` meets its contract: a walk over the block's rows, in each a walk over its
--- twenty numbers.
-use mathlib.Core.Path.{ap}
-use lib.ListN.{set}
+-- `linear_discriminant::scores::score_block` meets its contract: the column is written from the front, in each turn
+-- with what a walk over the row's twenty numbers leaves.
 use borrow.Author.Rules.{rules}
-use Rattle.folds.proofs.Walks.{step, step_by, done}
+use Rattle.folds.proofs.Walks.{step, done}
+use Rattle.folds.proofs.Writing.{writing_step, writing_done}
 use Rattle.linear_discriminant.specs.Rows.{scored}
-use Rattle.linear_discriminant.specs.Inner.Blocks.{written}
 use Rattle.linear_discriminant.proofs.scores.score_block.Goals as goal
 
 pub loop-j-preserved : goal.loop-j-preserved
@@ -13,9 +11,7 @@ loop-j-preserved c = step c.loop-j.invariant (search rules)
 
 pub loop-i-preserved : goal.loop-i-preserved
 unfolding scored
-loop-i-preserved c = let w = c.loop-i in
-    (search rules, step_by w.invariant.1 (search rules) (ap (set w.scores w.i) (done c.loop-j.invariant (search rules))))
+loop-i-preserved c = writing_step c.loop-i.invariant (search rules) (done c.loop-j.invariant (search rules))
 
 pub returns : goal.returns
-unfolding written
-returns c = done c.loop-i.invariant.1 (search rules)
+returns c = writing_done c.loop-i.invariant (search rules)
