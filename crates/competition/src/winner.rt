@@ -40,8 +40,8 @@ fn write_winners(table: &Table, scores: &mut [f32], is_decoy: &mut [u32])
     }
 }
 
-// score() and is_decoy() of every seen slot, from which the host takes its densities. Two result columns and no struct,
-// which would be made here to be taken apart in three functions.
+// score() and is_decoy() of every seen slot, from which the host takes its densities. Two result columns, numbers as C
+// has them, and no struct, which would be made here to be taken apart in three functions.
 pub fn winners(table: &Table, scores: &mut [f32], is_decoy: &mut [u32]) -> Result<(), Refusal>
     ensures { winners_run result scores.new is_decoy.new ≡ winners table.now scores.old is_decoy.old }
 {

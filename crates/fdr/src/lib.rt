@@ -91,7 +91,7 @@ fn assigned(
 
 // Q-values of feature rows by their slots' names, and how many targets among the ranked rows have one of at most 0.01.
 // `keys` and `spare`, two entries per slot, are C's working columns, since the library takes no memory; they hold 0
-// afterwards. `slots`, `labels` and `q` are no struct: of one with a `&mut` column a caller loses what it holds (D64).
+// afterwards. `slots` and `labels` are parameters, as all columns of a call that ranks (D64).
 pub fn assign_q_value(
     settings: Settings,
     bins: &[f64],

@@ -211,7 +211,7 @@ pub fn to_u64<F: Float>(x: F) -> u64
     whole_part(max(0.5, wide))
 }
 
-// Rust's `x as usize`, which has 64 bits.
+// Rust's `x as usize`: the same, cast, since a usize has 64 bits.
 pub fn to_usize<F: Float>(x: F) -> usize
     ensures { result ≡ to_unsigned 64 (F.number x) }
 {
@@ -259,7 +259,7 @@ pub fn max<F: Float>(a: F, b: F) -> F
     a
 }
 
-// −1, 0 or 1, as C gets an order, which is no enum there.
+// −1, 0 or 1, as C gets an order, which is no enum there. A function and no From: neither type is this crate's.
 pub fn sign(order: Ordering) -> i32
     ensures { result ≡ sign_of order }
 {

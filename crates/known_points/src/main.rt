@@ -1,6 +1,6 @@
 // Runs document 01's known points, marked or not, and prints one line a point; `stdout` holds what the document says.
 // Floats are printed by their bits. Lists are arrays, as long as their points say, so that nothing is assumed of C's
-// memory.
+// memory. Each function has one sentence of the document, so that some differ in a number alone.
 #![tactic(auto)]
 
 ghost use Rattle.std.specs.Prelude.{◌<◌};
@@ -299,7 +299,7 @@ fn tolerances(rt: &impl Print) -> io::Result<()> {
     println!(rt; "Pct -10 to 10: {}", bins(Tolerance::Pct(-10.0, 10.0)))
 }
 
-// A table of N slots in arrays, which begins with garbage.
+// A table of N slots in arrays, which begins with garbage; replay_fdr has one of Vecs.
 #[derive(Drop)]
 struct Slots<const N: usize> {
     forward: [f32; N],

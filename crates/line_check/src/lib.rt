@@ -74,7 +74,7 @@ impl From<Result<Line, Refusal>> for LineNumbers {
 }
 
 impl Rate {
-    // How many targets a row needs for each of its decoys plus one.
+    // How many targets a row needs for each of its decoys plus one: the rate's own number.
     fn per_decoy(self) -> usize
         ensures { result ≡ per_of self }
     {

@@ -31,8 +31,8 @@ fn twenty_each(features: usize, rows: usize) -> bool
     (features % 20 == 0) & (features / 20 == rows)
 }
 
-// A label's class: 0 is the decoys', label -1, and 1 the targets'. A number and no enum, since it is the class's place
-// in sums and tables, without a branch.
+// The class of a label, C's i32: 0 is the decoys', label -1, and 1 the targets'. A number and no enum, since it is the
+// class's place in sums and tables, without a branch.
 fn class_of(label: i32) -> usize
     ensures { (result ≡ class_of label) × (result < 2) }
 {

@@ -1,5 +1,6 @@
 // Pass 2 of the fit: the scatter of each class, and the scatter within the classes. Scatter is symmetric, so a little
-// over half of it is summed: of row j twelve columns, or ten from row 10 on, from the even one at or below j.
+// over half of it is summed: of row j twelve columns, or ten from row 10 on, from the even one at or below j. Places
+// are plain numbers: a type for them would say no more than `j < 20`.
 ghost use Rattle.std.specs.Prelude.{◌≡◌, [], ◌+◌, ◌≤◌, ◌<◌, length, get_or};
 ghost use Rattle.linear_discriminant.specs.Inner.Passes.{centred_row, pair_added, kept_added, half_tables, scatter_of};
 ghost use Rattle.linear_discriminant.specs.Inner.Passes.{stored_place, stored_width, within_row, within_table};

@@ -1,4 +1,4 @@
-// Rows as keys.
+// Rows as keys. The bound on their number is a `requires` and no struct's: see `columns::LONGEST`.
 ghost use Rattle.std.specs.Prelude.{◌≡◌, ℕ, ◌≤◌, ◌<◌, length};
 ghost use Rattle.columns.specs.Refusals.{longest};
 ghost use Rattle.precursor.specs.Inner.Keyed.{Keyed};

@@ -53,8 +53,8 @@ fn take_minima(q: &mut [f32]) -> usize
     passing
 }
 
-// Q-values of a ranked list of spectra, and how many of its rows, decoys too, have one of at most 0.01. A label of -1
-// is a decoy.
+// Q-values of a ranked list of spectra, and how many of its rows, decoys too, have one of at most 0.01. A label is C's
+// i32, of which -1 alone is a decoy.
 pub fn spectrum_q_value(labels: &[i32], q: &mut [f32]) -> Result<usize, Refusal>
     ensures { spectrum_run result q.new ≡ spectrum_q_value labels.now q.old }
 {

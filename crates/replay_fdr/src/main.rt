@@ -41,8 +41,8 @@ impl Rows {
     }
 }
 
-// The columns of a table, as long as a case says. Those of known_points are arrays: a struct for both would need a type
-// for each column.
+// The columns of a table, as long as a case says; `table` and `table_mut` borrow each of them, to read and to write.
+// Those of known_points are arrays: a struct for both would need a type for each column.
 #[derive(Drop)]
 struct Slots {
     forward: Vec<f32>,

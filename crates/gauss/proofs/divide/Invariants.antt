@@ -1,7 +1,10 @@
 -- `gauss::divide` meets its contract. The loop is the walk of `divided` along the row.
-use Rattle.folds.proofs.Walks.{Walk}
+use Prim.Native.Nat.{◌-◌}
 use Rattle.gauss.specs.Inner.Rows.{divide_at}
+use Rattle.gauss.proofs.PartWalks.{PartWalk}
 use Rattle.gauss.proofs.divide.Given as goal
 
-abbrev pub invariant-loop-k : goal.invariant-loop-k
-invariant-loop-k l = Walk (divide_at l.x) l.j l.k l.fn.size.rows l.initial.row l.row
+abbrev pub invariant-loop-y : goal.invariant-loop-y
+invariant-loop-y l =
+    let n = l.fn.size.rows in
+    PartWalk (divide_at l.x) l.j (n - l.j) n l.fn.row l.y-items l.y-index
