@@ -4,7 +4,7 @@
  * Every call:
  * - keeps no state, allocates nothing, and makes no system call. Calls may run in several threads at once, each on
  *   columns of its own; columns that a call only reads (const) may be shared.
- * - ends on every input, and needs less than 32 KiB of stack: vayemuku_train the most, some 25.
+ * - ends on every input, and needs less than 32 KiB of stack: vayemuku_train the most, some 22.
  * - takes pointers that are aligned as their types are in C. A pointer to a column may be null where its length is 0;
  *   pointers to arrays of twenty and to single numbers may not. */
 #ifndef VAYEMUKU_H

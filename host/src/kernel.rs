@@ -44,7 +44,7 @@ impl<'a> Kernel<'a> {
         self.bandwidth
     }
 
-    /// The density at a point; NaN for an empty sample, or one of equal numbers.
+    /// The density at a point; NaN for an empty sample, or one of equal numbers whose mean is not rounded.
     pub fn density(&self, point: f64) -> f64 {
         let kernel = |x: f64| (-0.5 * x.powi(2)).exp();
         let sum = self.sample.iter().fold(0.0, |sum, x| sum + kernel((point - x) / self.bandwidth));

@@ -4,14 +4,14 @@
 //! the call and a [`Refusal`].
 //!
 //! ```
-//! use vayemuku::{check_line, spectrum_q_value, Line, Rate};
+//! use vayemuku::{checked_spectra, Line};
 //!
-//! // 100 targets and a decoy, the best row first: 100 rows pass at one in 100.
+//! // 100 targets and a decoy, the best row first: 100 rows pass at one in 100, and the line after them is right.
 //! let mut labels = vec![1; 100];
 //! labels.push(-1);
-//! let answer = spectrum_q_value(&labels)?;
-//! assert_eq!(answer.count, 100);
-//! assert!(matches!(check_line(&labels, answer.count, Rate::OneIn100)?, Line::Right(_)));
+//! let checked = checked_spectra(&labels)?;
+//! assert_eq!(checked.q_values.count, 100);
+//! assert!(matches!(checked.line, Line::Right(_)));
 //! # Ok::<(), vayemuku::Refused>(())
 //! ```
 //!

@@ -28,7 +28,9 @@ type BatchRow = (u32, i32, f32);
 pub fn lines() -> Vec<bool> {
     let lone =
         [label_and_peptide(), no_rows(), no_targets(), never_scored(), names_that_meet(), one_name(), nan_side()];
-    [lone.to_vec(), few_decoys(), never_scored_beside(), sums(), tied(), no_part(), vec![one_group()], sides()].concat()
+    let rest = [halves(), one_in_100(), vec![decoy_row_first(), label_and_group(), one_protein()]].concat();
+    [lone.to_vec(), few_decoys(), never_scored_beside(), sums(), tied(), no_part(), vec![one_group()], sides(), rest]
+        .concat()
 }
 
 /// Bins from the least score 0 on, a step of 1 apart.
@@ -212,6 +214,63 @@ fn sums() -> Vec<bool> {
         line("a decoy alone, error -1", &[(0, -1, 0.0)], -1.0, "([1.0], 0)"),
         line("a decoy alone, error 0.5", &[(0, -1, 0.0)], 0.5, "([1.0], 0)"),
     ]
+}
+
+/// Errors of half a unit in the last place of the sum and less: lost from an even sum, and not from an odd one, nor
+/// below 1.0, where a unit is half as large.
+fn halves() -> Vec<bool> {
+    let (db, rows, half) = (database(&["P", "Q"], true), [(0, 1, 2.0), (1, 1, 1.0)], f64::from(f32::EPSILON) / 2.0);
+    let line =
+        |input, parts: &Parts, wanted| check(input, (sage(&db, &rows, parts), wanted), (port(1, &rows, parts), wanted));
+    let odd = Parts { bins: vec![half, 2.0 * half], min_score: 1.0, score_step: 1.0 };
+    vec![
+        line("targets 2.0 and 1.0, errors 2^-24", &bins(&[half]), "([0.5, 0.5], 0)"),
+        line("targets 2.0 and 1.0, errors 2^-23 and 2^-24", &odd, "([0.5000001, 0.5000001], 0)"),
+        line("targets 2.0 and 1.0, errors -5E-8", &bins(&[-5e-8]), "([0.49999994, 0.49999994], 0)"),
+    ]
+}
+
+/// Targets of as many proteins, all but the last with an error of 0: the last one's q-value, and the count.
+fn one_in_100() -> Vec<bool> {
+    let line = |input, targets: u32, error, wanted| {
+        let names: Vec<String> = (0..targets).map(|name| format!("P{name}")).collect();
+        let db = database(&names.iter().map(String::as_str).collect::<Vec<_>>(), true);
+        let rows: Vec<BatchRow> = (0..targets).map(|slot| (slot, 1, slot as f32)).collect();
+        let parts = bins(&[error, 0.0]);
+        let last = |(q, count): (Vec<f32>, usize)| (q[0], count);
+        check(input, (last(sage(&db, &rows, &parts)), wanted), (last(port(1, &rows, &parts)), wanted))
+    };
+    vec![
+        line("110 targets, the last with an error of 0.1: its q-value, and the count", 110, 0.1, "(0.01, 110)"),
+        line("107 targets, the last with an error of 0.07: likewise", 107, 0.07, "(0.010000001, 106)"),
+    ]
+}
+
+/// A protein with equal sides, whose decoy's row comes first: its target is ranked first.
+fn decoy_row_first() -> bool {
+    let (rows, parts) = ([(1, 1, 2.0), (0, -1, 1.0), (0, 1, 1.0)], bins(&[0.25]));
+    let (sage, wanted) = (sage(&database(&["P", "Q"], true), &rows, &parts), "([0.75, 0.875, 0.75], 0)");
+    check(
+        "a target 2.0, then another protein's decoy 1.0 and target 1.0",
+        (sage, wanted),
+        (port(1, &rows, &parts), wanted),
+    )
+}
+
+/// A row labelled as a decoy whose peptide is a target, among groups.
+fn label_and_group() -> bool {
+    let group = Some("P".to_string());
+    let mut rows = [Feature { protein_groups: group, num_protein_groups: 1, ..feature(0, -1, 0.0) }];
+    let count = forcing(bins(&[-1.0]), || picked_protein_group(&database(&["P", "Q"], true), &mut rows));
+    let port = port(0, &[(0, -1, 0.0)], &bins(&[-1.0]));
+    check("a group: label -1, peptide a target", ((rows[0].protein_group_q, count), "(0.0, 1)"), (port, "([1.0], 0)"))
+}
+
+/// Two target rows of one protein: the count is of proteins.
+fn one_protein() -> bool {
+    let (rows, parts) = ([(0, 1, 1.0), (0, 1, 0.5)], bins(&[-1.0]));
+    let (sage, wanted) = (sage(&database(&["P", "Q"], true), &rows, &parts), "([0.0, 0.0], 1)");
+    check("two target rows of one protein, error -1", (sage, wanted), (port(1, &rows, &parts), wanted))
 }
 
 /// Sides scored 1.0: sage's answers under several names of the two proteins.

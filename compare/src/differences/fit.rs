@@ -15,7 +15,8 @@ use vayemuku_sys::{score, score_rows};
 /// The lines of both modules.
 pub fn lines() -> Vec<bool> {
     let lone = vec![lost_score(), infinite_score(), regular_fit(), zero_row()];
-    [systems(), accepted(), diagonals(), fits(), lengths(), projections(), turned(), masses(), lone].concat()
+    let rest = [small_entry(), pivots(), exchanged(), spoiled(), vec![equal_features()]].concat();
+    [systems(), accepted(), diagonals(), fits(), lengths(), projections(), turned(), masses(), lone, rest].concat()
 }
 
 /// The port's number and the first numbers of its answer to a system with these entries and this on its right side.
@@ -307,4 +308,109 @@ fn zero_row() -> bool {
         ([sage(&two, 2).is_some(), sage(&three, 3).is_some()], "[true, false]"),
         ([port(&two, 2).0, port(&three, 3).0], "[0, 7]"),
     )
+}
+
+/// A positive entry off the diagonal that passes, beside a row of zeros: an answer far from the solution. And one that
+/// does not pass.
+fn small_entry() -> Vec<bool> {
+    let (small, large) = ([-1.0, -1e-9, 0.0, -1.0], [-1.0, -1e-8, 0.0, -1.0]);
+    vec![
+        check(
+            "-1 -1E-9, 0 -1 = 1 1",
+            (sage(&small, 2), "Some([-1.0000000100000002, -999999988.9999999])"),
+            (port(&small, 2), "(0, [-1.0000000100000002, -999999988.9999999])"),
+        ),
+        check("-1 -1E-8, 0 -1 = 1 1", (sage(&large, 2), "None"), (port(&large, 2), "(7, [NaN, NaN])")),
+    ]
+}
+
+/// What stands on the left side after reduce: where no row from h down has a pivot, row 0 is swapped down; and a number
+/// below 0 that was skipped has become 1.
+fn pivots() -> Vec<bool> {
+    let (infinite, turned) = ([1.0, 5.0, 0.0, f64::NEG_INFINITY], [-1.0, 0.0, 0.0, 1.0]);
+    let reduced = |left: [f64; 4]| Gauss::reduced_left(Matrix::new(left, 2, 2), Matrix::col_vector(vec![1.0; 2]), 1e-8);
+    vec![
+        check(
+            "1 5, 0 -infinity = 1 1: the left side after reduce",
+            (reduced(infinite), "[0.0, NaN, 1.0, 4.999999950000001]"),
+            (port(&infinite, 2).0, "7"),
+        ),
+        check(
+            "-1 0, 0 1 = 1 1: the left side after reduce",
+            (reduced(turned), "[0.0, 1.0, 1.0, -0.0]"),
+            (port(&turned, 2).0, "7"),
+        ),
+    ]
+}
+
+/// A whole run over four rows, of which the last is changed, on both sides: sage's answer, and the port's number.
+fn run_changed(change: impl Fn(&mut Feature, &mut Psm)) -> (Option<()>, u32) {
+    let masses = [(-1, 0.0), (-1, 1.0), (1, 2.0), (1, 3.0)];
+    let mut features =
+        masses.map(|(label, delta_mass)| Feature { label, delta_mass, peptide_len: 8, ..Feature::default() });
+    let mut psms = masses.map(|(label, precursor_ppm)| Psm { label, precursor_ppm, peptide_len: 8, ..Psm::default() });
+    change(&mut features[3], &mut psms[3]);
+    let port = rescore(&psms, &[None; 4], Names::Two, host::Tolerance::Ppm(-10.0, 10.0), &mut Kernels);
+    let number = port.map_or_else(|refused| refused.refusal.number(), |_| 0);
+    (score_psms(&mut features, Tolerance::Ppm(-10.0, 10.0)), number)
+}
+
+/// Whole runs in which one row has a mass error of NaN, no peptide, or a hyperscore without a logarithm.
+fn spoiled() -> Vec<bool> {
+    let line = |input, (sage, port): (Option<()>, u32)| check(input, (sage, "None"), (port, "7"));
+    let plain = run_changed(|_, _| ());
+    vec![
+        check("a run over two decoys and two targets", (plain.0, "Some(())"), (plain.1, "0")),
+        line(
+            "the same, one mass error NaN",
+            run_changed(|row, psm| (row.delta_mass, psm.precursor_ppm) = (f32::NAN, f32::NAN)),
+        ),
+        line("the same, one peptide_len 0", run_changed(|row, psm| (row.peptide_len, psm.peptide_len) = (0, 0))),
+        line("the same, one hyperscore -1", run_changed(|row, psm| (row.hyperscore, psm.hyperscore) = (-1.0, -1.0))),
+    ]
+}
+
+/// Three decoys and a target that are equal, and whose means are not.
+fn equal_features() -> bool {
+    let (sage, port) = scores(&[pair(0.1, 0.0); 4], &[true, true, true, false]);
+    let below = "[-1.3877787807814457e-10, -1.3877787807814457e-10, -1.3877787807814457e-10, -1.3877787807814457e-10]";
+    let (wanted, ruled) = (format!("Some({below})"), format!("(0, {below})"));
+    check("three decoys and a target of 0.1: the score of each", (sage, &wanted), (port, &ruled))
+}
+
+/// Fits of the same rows with two features, or two rows of a class, exchanged.
+fn exchanged() -> Vec<bool> {
+    let coefficients = |first: f64, second: f64| {
+        let rows = [pair(first, second), pair(-first, -second), pair(first, second)];
+        let sage = LinearDiscriminantAnalysis::train(&rows, &[true, true, false], |row: &Vector| *row);
+        let (number, values) = train(rows.as_flattened(), &[-1, -1, 1]);
+        (sage.map(|fit| [fit.coefficients()[0], fit.coefficients()[1]]), (number, [values[0], values[1]]))
+    };
+    let (as_given, turned) = (coefficients(1.0, 2.0), coefficients(2.0, 1.0));
+    let [target, one, two, three] =
+        [&[0.0; 3], &[1.0, -2.0, 2.0], &[-1.0, 0.0, 1.0], &[-2.0, 1.0, -2.0]].map(|row| row_of(row));
+    let of = |rows: [Vector; 4]| scores(&rows, &[false, true, true, true]);
+    let (in_order, other) = (of([target, one, two, three]), of([target, one, three, two]));
+    let (small, large) = (
+        "[0.0, -0.5188284518828452, -0.8702928870292889, -0.48117154811715496]",
+        "[0.0, -50000000.30387355, -50000000.303873554, -50000001.80387351]",
+    );
+    vec![
+        check("decoys 1 2 and -1 -2, a target 1 2", (as_given.0, "None"), (as_given.1, "(7, [NaN, NaN])")),
+        check(
+            "the same, both features exchanged",
+            (turned.0, "Some([0.399999999, 0.2])"),
+            (turned.1, "(0, [0.399999999, 0.2])"),
+        ),
+        check(
+            "a target of zeros, then the decoys 1 -2 2, -1 0 1 and -2 1 -2: scores",
+            (in_order.0, &format!("Some({small})")),
+            (in_order.1, &format!("(0, {small})")),
+        ),
+        check(
+            "the same, the last two rows exchanged",
+            (other.0, &format!("Some({large})")),
+            (other.1, &format!("(0, {large})")),
+        ),
+    ]
 }

@@ -17,7 +17,8 @@ use vayemuku_sys::{posterior_bins, vayemuku_log_error, EstimatorRef};
 pub fn lines() -> Vec<bool> {
     let lone = vec![aborted(), flags(), infinite_error(), stored_error(), last_score(), kernels()];
     let bins = [bin_counts(), tolerances(), infinite_tolerances(), no_rows(), spans()].concat();
-    [bins, last_bin(), near_zero(), errors(), nan_bins(), below_zero(), lone].concat()
+    let rest = vec![equal_numbers(), equal_classes(), level(), far_under(), tiny_step(), first_nan()];
+    [bins, last_bin(), near_zero(), errors(), nan_bins(), below_zero(), lone, rest].concat()
 }
 
 /// No bins, and one.
@@ -350,4 +351,66 @@ fn kernels() -> bool {
     let should = if differ && near { "" } else { ", and they should differ in their last digits" };
     println!("the density of {sample:?} at {place}: sage {sage:?}, host {host:?}{should}");
     differ && near
+}
+
+/// The density of three equal numbers at that number: NaN where their mean is the number, and not where it is rounded.
+fn equal_numbers() -> bool {
+    let densities = |of: fn(&[f64; 3], f64) -> f64| format!("{:?}", [0.5, 0.1].map(|number| of(&[number; 3], number)));
+    let sage = densities(|sample, place| Kde::new(sample, |bandwidth| bandwidth).pdf(place));
+    let host = densities(|sample, place| Kernel::new(sample, 1.0).density(place));
+    let same = [&sage, &host].map(|side| side == "[NaN, 3.380853300798316e16]") == [true; 2];
+    let should = if same { "" } else { ", and they should be NaN and 3.380853300798316e16" };
+    println!("the densities of 0.5 0.5 0.5 and of 0.1 0.1 0.1: sage {sage}, host {host}{should}");
+    same
+}
+
+/// The bins of both sides from these decoys and targets, the port's with host's densities.
+fn built(bins: usize, decoys: &[f64], targets: &[f64]) -> (Vec<f64>, Vec<f64>) {
+    let scores = [decoys, targets].concat();
+    let flags: Vec<bool> = (0..scores.len()).map(|place| place < decoys.len()).collect();
+    let labels: Vec<i32> = flags.iter().map(|&decoy| if decoy { -1 } else { 1 }).collect();
+    let sage = Builder::default().bins(bins).build(&scores, &flags).parts().bins;
+    let (mut at, mut column) = (vec![0.5; bins], vec![0.5; bins]);
+    let built = bin_scores(bins, &scores, &mut at);
+    let density = |sample| at.iter().map(|&score| Kernel::new(sample, 1.0).density(score)).collect::<Vec<f64>>();
+    let number = posterior_bins(1, bins, &labels, &density(decoys), &density(targets), &mut column).number;
+    assert_eq!((built.number, number), (0, 0));
+    (sage, column)
+}
+
+/// Bins of three equal decoys.
+fn equal_classes() -> bool {
+    let (exact, rounded) = (built(2, &[0.5; 3], &[1.0, 2.0]), built(2, &[0.1; 3], &[1.0, 2.0]));
+    let wanted = "([NaN, NaN], [1.0, 0.0])";
+    check(
+        "targets 1 and 2, and three decoys of 0.5, or of 0.1: two bins",
+        ((exact.0, rounded.0), wanted),
+        ((exact.1, rounded.1), wanted),
+    )
+}
+
+/// Bins of targets that are the decoys' equals.
+fn level() -> bool {
+    let (sage, port) = built(2, &[0.0, 1.0], &[0.0, 1.0]);
+    check("decoys 0 and 1, targets 0 and 1: two bins", (sage, "[0.5, 0.5]"), (port, "[0.5, 0.5]"))
+}
+
+/// A score so far under the first bin that the distance is infinite.
+fn far_under() -> bool {
+    let (sage, port) = error_of(&[0.5, 0.25], (1e308, 1.0), -1e308);
+    check("bins 0.5 0.25, least 1E308, score -1E308", (sage, "inf"), (port, "inf"))
+}
+
+/// Scores that differ by the least f64: the step of three bins is half of it, rounded.
+fn tiny_step() -> bool {
+    let scores = [0.0, 5e-324];
+    let step = Builder::default().bins(3).build(&scores, &[true, false]).parts().score_step;
+    let built = bin_scores(3, &scores, &mut [0.5; 3]);
+    check("scores 0 and 5E-324, three bins: the step", (step, "0.0"), (built.score_step, "0.0"))
+}
+
+/// A first bin of NaN.
+fn first_nan() -> bool {
+    let (sage, port) = error_of(&[f64::NAN, 0.5], (0.0, 1.0), -3.0);
+    check("bins NaN 0.5, score -3", (sage, "NaN"), (port, "NaN"))
 }

@@ -12,7 +12,7 @@ use lib.ListN.{length, get_or, take, length-map, length-replicate}
 use lib.Seq.{ext_get_or}
 use lib.Ieee.{Float, nan}
 use Rattle.folds.specs.Lists.{filled}
-use Rattle.folds.specs.Inner.All.{All}
+use Rattle.folds.specs.Inner.Each.{Each}
 use Rattle.folds.proofs.Tests.{both_true}
 use Rattle.folds.proofs.Writing.{tabulated_at, map_at, all_at, same_blank}
 use Rattle.std.specs.Prelude.{Result, Ok, Err, IsOk}
@@ -174,8 +174,8 @@ module _ (labels : List ℤ) (scores : List Float) (keys spare : List ℕ) (rank
     )
 
   -- the labels and the q-values are read at rows of the list
-  pub reads : (order₂ : List ℕ) → order₂ ≡ ranked_order scores → All (λ row. row < length labels) order₂
-  reads order₂ f = rw f (subst (λ (n : ℕ). All (λ row. row < n) (ranked_order scores)) w.scores_match (order_in_bounds scores))
+  pub reads : (order₂ : List ℕ) → order₂ ≡ ranked_order scores → Each (λ row. row < length labels) order₂
+  reads order₂ f = rw f (subst (λ (n : ℕ). Each (λ row. row < n) (ranked_order scores)) w.scores_match (order_in_bounds scores))
 
   -- what is left of each column, and the answer
   pub checked_is : (q₁ : List Float) (keys₂ spare₂ order₂ : List ℕ) (ranked₁ ranked₂ : List ℤ) (line : ℕ)

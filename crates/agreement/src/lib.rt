@@ -6,7 +6,7 @@
 
 ghost use Rattle.std.specs.Prelude.{◌≡◌, map, ◌<◌, pos, length, get_or};
 ghost use Rattle.std.specs.Float.{nan};
-ghost use Rattle.folds.specs.Inner.All.{All};
+ghost use Rattle.folds.specs.Inner.Each.{Each};
 ghost use Rattle.columns.specs.Refusals.{◌and◌};
 ghost use Rattle.floats.specs.Ratio.{one_in};
 ghost use Rattle.counting.specs.QValues.{count_at_most};
@@ -49,7 +49,7 @@ fn ask(
 // `iter_mut().zip()` is not known to a proof.
 fn read_ranked(labels: &[i32], q: &[f32], order: &[u32], ranked: &mut [i32]) -> usize
     requires q_len { (length q.now ≡ length labels.now) × (length ranked.old ≡ length order.now) }
-    requires order_in_bounds { All (λ row. row < length labels.now) order.now }
+    requires order_in_bounds { Each (λ row. row < length labels.now) order.now }
     ensures count { result ≡ count_at_most (one_in 20) (map (λ row. get_or q.now row nan) order.now) }
     ensures column { ranked.new ≡ map (λ row. get_or labels.now row (pos 0)) order.now }
 {

@@ -14,7 +14,7 @@ use lib.Seq.{take_at, length-take-le, length_front}
 use lib.Ieee.{Float, nan, binary32, fits, of_bits}
 use Rattle.std.proofs.lemmas.List.{get_or_past}
 use Rattle.folds.specs.Lists.{filled, tabulated}
-use Rattle.folds.specs.Inner.All.{All}
+use Rattle.folds.specs.Inner.Each.{Each}
 use Rattle.folds.proofs.Tests.{lt_or_ge}
 use Rattle.folds.proofs.Writing.{tabulated_same, same_blank, all_map, all_at}
 use Rattle.floats.specs.Constants.{f32_one}
@@ -58,12 +58,12 @@ module _ (settings : Settings) (bins : List Float) (t : Table) (keys : List ℕ)
   length_capped : length capped ≡ length keys
   length_capped = length-map (ratios_from settings bins f32_one 0 sides) _ ∙ length_ratios settings bins f32_one 0 sides ∙ length-map keys (key_side t)
 
-  numbers : All F32Number capped
+  numbers : Each F32Number capped
   numbers = capped_numbers (ratios_from settings bins f32_one 0 sides) (ratios_fit settings bins f32_one 0 sides)
 
   module _ (keys₂ : List ℕ) (k : keys₂ ≡ with_numbers capped keys) where
     -- what `take_minima` asks
-    pub minima_ask : All HoldsNumber keys₂
+    pub minima_ask : Each HoldsNumber keys₂
     minima_ask = rw k (hold_numbers capped keys numbers)
 
     -- its minima are the q-values
@@ -101,8 +101,8 @@ rank_done settings bins t keys₁ keys₀ s keys₂ k count keys₃ c m =
 -- ---- the rows
 
 -- every key's slot is one of the table's, so that its names are places of the names' column
-names_fit : (n m : ℕ) → m ≡ 2 * n → (keys : List ℕ) → All (SlotInBounds n) keys
-    → All (λ k. NamesInBounds m (place_of k)) keys
+names_fit : (n m : ℕ) → m ≡ 2 * n → (keys : List ℕ) → Each (SlotInBounds n) keys
+    → Each (λ k. NamesInBounds m (place_of k)) keys
 names_fit n m e keys w = all_map (SlotInBounds n) (λ k. NamesInBounds m (place_of k)) (λ k h. omega arith) keys w
 
 labels_same : (t : Table) (keys : List ℕ) → map label_of keys ≡ map side_label (map (key_side t) keys)
@@ -170,7 +170,7 @@ module _ {bins : List Float} {t : Table} {slots : List ℕ} {labels : List ℤ} 
   part : length (take rows keys₁) ≡ rows
   part = length-take-le rows keys₁ (omega (arith, w.few, w.same))
 
-  in_bounds : All (SlotInBounds (length t.forward)) (take rows keys₁)
+  in_bounds : Each (SlotInBounds (length t.forward)) (take rows keys₁)
   in_bounds = rw w.front (listed_in_bounds t 0 (length t.forward) (seen_sides t) w.ready.pack.short (seen_listed t))
 
   -- what `rank` asks
@@ -203,7 +203,7 @@ module _ {bins : List Float} {t : Table} {slots : List ℕ} {labels : List ℤ} 
     unfolding side_q
     length_qs = length_running_minimum ratios ∙ length_ratios settings bins f32_one 0 (map (key_side t) ks) ∙ length-map ks (key_side t)
 
-    numbers_qs : All F32Number qs
+    numbers_qs : Each F32Number qs
     unfolding side_q
     numbers_qs = minimum_numbers ratios (ratios_fit settings bins f32_one 0 (map (key_side t) ks))
 
@@ -212,7 +212,7 @@ module _ {bins : List Float} {t : Table} {slots : List ℕ} {labels : List ℤ} 
     front_is = take_at part₁ (drop rows keys₁) rows (r.same_keys ∙ part) ∙ r.keys_are
 
     -- their names are places of a column of two entries per slot
-    bounded : (n : ℕ) → n ≡ 2 * length t.forward → All (λ k. NamesInBounds n (place_of k)) (with_numbers qs ks)
+    bounded : (n : ℕ) → n ≡ 2 * length t.forward → Each (λ k. NamesInBounds n (place_of k)) (with_numbers qs ks)
     bounded n h =
         names_fit (length t.forward) n h (with_numbers qs ks)
         (places_stay (λ place. place < length t.forward) qs ks (all_sorted (SlotInBounds (length t.forward)) (take rows keys₁) in_bounds))
@@ -221,7 +221,7 @@ module _ {bins : List Float} {t : Table} {slots : List ℕ} {labels : List ℤ} 
     spare_length = length_front spare₀ spare₁ rows r.same_spare
 
     -- what `name_q_values` asks
-    pub names_ask : All (λ k. NamesInBounds (length (spare₁ ++ drop rows spare₀)) (place_of k))
+    pub names_ask : Each (λ k. NamesInBounds (length (spare₁ ++ drop rows spare₀)) (place_of k))
         (take rows (part₁ ++ drop rows keys₁))
     names_ask = rw front_is (bounded (length (spare₁ ++ drop rows spare₀)) (spare_length ∙ w.ready.spare_length))
 
@@ -242,16 +242,16 @@ module _ {bins : List Float} {t : Table} {slots : List ℕ} {labels : List ℤ} 
       column_length : length column ≡ length spare₀
       column_length = ap length column_of ∙ length_names settings.names (with_numbers qs ks) ones ∙ places
 
-      rows_in_bounds : All (λ s. eqb s no_part ≡ false → NamesInBounds (length column) s) slots
+      rows_in_bounds : Each (λ s. eqb s no_part ≡ false → NamesInBounds (length column) s) slots
       rows_in_bounds = slots_in_bounds (length t.forward) (length column) (column_length ∙ w.ready.spare_length) slots w.ready.slots_allowed
 
       -- what `write_rows` asks
-      column_bits : All NumberBits column
+      column_bits : Each NumberBits column
       unfolding ones
       column_bits = rw column_of (names_bits settings.names (with_numbers qs ks) ones (hold_numbers qs ks numbers_qs) (ones_bits (length (spare₁ ++ drop rows spare₀))))
 
-      pub rows_ask : All NumberBits column
-          × (All (λ s. eqb s no_part ≡ false → NamesInBounds (length column) s) slots ×
+      pub rows_ask : Each NumberBits column
+          × (Each (λ s. eqb s no_part ≡ false → NamesInBounds (length column) s) slots ×
           ((length labels ≡ length slots) × (length q₀ ≡ length slots)))
       rows_ask = (column_bits, (rows_in_bounds, (w.ready.labels_length, w.ready.q_length)))
 

@@ -11,7 +11,7 @@ use lib.ListN.{length, get_or, drop, set, replicate, length-set, drop_of_length-
 use lib.Seq.{drop-cons}
 use lib.Ieee.{binary32, is_nan, of_bits, to_bits}
 use Rattle.floats.proofs.Fields.{bits_cond}
-use Rattle.folds.specs.Inner.All.{All}
+use Rattle.folds.specs.Inner.Each.{Each}
 use Rattle.folds.proofs.Writing.{set_reads, all_set}
 use Rattle.folds.proofs.Tests.{both_true}
 use Rattle.ranking.specs.Inner.Layout.{place_of, decoy_bit, upper_of}
@@ -65,7 +65,7 @@ module _ (names : Names) (keys column₀ : List ℕ) {i : ℕ} {column : List �
 -- ---- what a name reads
 
 pub names_read : (names : Names) (t : Table) (keys column : List ℕ) (name : ℕ)
-    → All (λ k. NamesInBounds (length column) (place_of k)) keys
+    → Each (λ k. NamesInBounds (length column) (place_of k)) keys
     → of_bits binary32 (get_or (written_at_names names keys column) name 0)
     ≡ q_of names (map (key_side t) keys) (map key_number keys) name (of_bits binary32 (get_or column name 0))
 unfolding written_at_names q_of
@@ -74,13 +74,13 @@ names_read names t (k ∷ ks) column name w =
     let n = key_name names k in
     let h : n < length column = name_in_bounds names (place_of k) _ (length column) w.0 in
     names_read names t ks (set column n (upper_of k)) name
-    (subst (λ (m : ℕ). All (λ x. NamesInBounds m (place_of x)) ks) (sym (length-set column n (upper_of k))) w.1)
+    (subst (λ (m : ℕ). Each (λ x. NamesInBounds m (place_of x)) ks) (sym (length-set column n (upper_of k))) w.1)
     ∙ ap (q_of names (map (key_side t) ks) (map key_number ks) name) (ap (of_bits binary32) (set_reads column n (upper_of k) name 0 h) ∙ bits_cond binary32 (eqb n name) (upper_of k) (get_or column name 0))
 
 -- ---- each place holds the bits of a number
 
-pub names_bits : (names : Names) (keys column : List ℕ) → All HoldsNumber keys → All NumberBits column
-    → All NumberBits (written_at_names names keys column)
+pub names_bits : (names : Names) (keys column : List ℕ) → Each HoldsNumber keys → Each NumberBits column
+    → Each NumberBits (written_at_names names keys column)
 unfolding written_at_names
 names_bits names [] column w h = h
 names_bits names (k ∷ ks) column w h =
@@ -90,7 +90,7 @@ pub one_bits : to_bits binary32 (of_bits binary32 1065353216) ≡ 1065353216
 unfolding to_bits of_bits
 one_bits = refl
 
-pub ones_bits : (n : ℕ) → All NumberBits (replicate n 1065353216)
+pub ones_bits : (n : ℕ) → Each NumberBits (replicate n 1065353216)
 ones_bits zero = tt
 ones_bits (suc n) = (record { small = lit< tt; number = unfold is_nan of_bits in tt }, ones_bits n)
 
@@ -103,7 +103,7 @@ length_names names (k ∷ ks) column =
 -- ---- the rows' slots
 
 pub slots_in_bounds : (count n : ℕ) → n ≡ 2 * count → (slots : List ℕ) → all_allowed count slots ≡ true
-    → All (λ s. eqb s no_part ≡ false → NamesInBounds n s) slots
+    → Each (λ s. eqb s no_part ≡ false → NamesInBounds n s) slots
 unfolding all_allowed
 slots_in_bounds count n e [] h = tt
 slots_in_bounds count n e (s ∷ ss) h =

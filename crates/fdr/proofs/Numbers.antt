@@ -9,7 +9,7 @@ use lib.ListN.{length}
 use lib.Ieee.{Float, binary32, fits, is_nan, of_bits, to_bits, add}
 use lib.Ieee.Fits.{div-fits}
 use lib.Ieee.Bits.{of_bits-to_bits, to_bits-lt}
-use Rattle.folds.specs.Inner.All.{All}
+use Rattle.folds.specs.Inner.Each.{Each}
 use Rattle.folds.proofs.Writing.{all_mapped}
 use Rattle.floats.specs.Constants.{f32_one}
 use Rattle.floats.specs.MinMax.{min_number}
@@ -51,7 +51,7 @@ module _ (settings : Settings) (bins : List Float) where
   length_ratios sum targets [] = refl
   length_ratios sum targets (s ∷ ss) = ap suc (length_ratios (add binary32 sum (error_of settings bins s.score)) _ ss)
 
-pub capped_numbers : (rs : List Float) → AllF32 rs → All F32Number (map (min_number f32_one) rs)
+pub capped_numbers : (rs : List Float) → AllF32 rs → Each F32Number (map (min_number f32_one) rs)
 capped_numbers rs w =
     all_mapped (λ r. T (fits binary32 r)) F32Number (min_number f32_one) (λ r h. (min_number_lem f32_one r one_number, min_fits binary32 f32_one r one_fits h)) rs w
 
@@ -60,21 +60,21 @@ unfolding minimum
 minimum_fits [] w = one_fits
 minimum_fits (r ∷ rs) w = min_fits binary32 (minimum rs) r (minimum_fits rs w.1) w.0
 
-pub minimum_numbers : (rs : List Float) → AllF32 rs → All F32Number (running_minimum rs)
+pub minimum_numbers : (rs : List Float) → AllF32 rs → Each F32Number (running_minimum rs)
 unfolding running_minimum
 minimum_numbers [] w = tt
 minimum_numbers (r ∷ rs) w = ((minimum_number (r ∷ rs), minimum_fits (r ∷ rs) w), minimum_numbers rs w.1)
 
 -- ---- numbers in the scores' places
 
-pub hold_numbers : (qs : List Float) (keys : List ℕ) → All F32Number qs → All HoldsNumber (with_numbers qs keys)
+pub hold_numbers : (qs : List Float) (keys : List ℕ) → Each F32Number qs → Each HoldsNumber (with_numbers qs keys)
 unfolding with_numbers
 hold_numbers [] keys h = tt
 hold_numbers (q ∷ qs) [] h = tt
 hold_numbers (q ∷ qs) (k ∷ ks) h = (subst NumberBits (sym (upper_of_with (to_bits binary32 q) k)) (number_bits q h.0), hold_numbers qs ks h.1)
 
 -- they can be read back
-pub numbers_back : (qs : List Float) (keys : List ℕ) → All F32Number qs → length qs ≡ length keys
+pub numbers_back : (qs : List Float) (keys : List ℕ) → Each F32Number qs → length qs ≡ length keys
     → map key_number (with_numbers qs keys) ≡ qs
 unfolding with_numbers
 numbers_back [] keys h e = refl
@@ -93,8 +93,8 @@ payload_stays f (q ∷ qs) (k ∷ ks) e =
     let u = to_bits binary32 q in
     ap₂ ◌∷◌ (ap₂ f (ap (λ (n : ℕ). n / 2) (payload_of_with u k)) (bit_of_with u k)) (payload_stays f qs ks (omega arith))
 
-pub places_stay : (P : ℕ → Type 0) (qs : List Float) (keys : List ℕ) → All (λ k. P (place_of k)) keys
-    → All (λ k. P (place_of k)) (with_numbers qs keys)
+pub places_stay : (P : ℕ → Type 0) (qs : List Float) (keys : List ℕ) → Each (λ k. P (place_of k)) keys
+    → Each (λ k. P (place_of k)) (with_numbers qs keys)
 unfolding with_numbers
 places_stay P [] keys w = tt
 places_stay P (q ∷ qs) [] w = tt

@@ -11,12 +11,12 @@ use lib.Dec.{T, eqb}
 use lib.IntN.{pos, negsuc}
 use lib.ListN.{length, get_or, length-map}
 use lib.Ieee.{Float, nan, binary32, fits}
-use Rattle.folds.specs.Inner.All.{All}
+use Rattle.folds.specs.Inner.Each.{Each}
 use Rattle.folds.proofs.Tests.{lt_or_ge}
 use Rattle.columns.specs.Refusals.{longest}
 use Rattle.counting.specs.Labels.{is_decoy}
 use Rattle.ranking.specs.Ranking.{Row, ranked}
-use Rattle.ranking.specs.Sorted.{insert, sorted}
+use Rattle.ranking.specs.Sorted.{key_inserted, sorted}
 use Rattle.ranking.specs.Inner.Layout.{packed, decoy_bit, label_of}
 use Rattle.ranking.proofs.Sorted.{insert_here, insert_past}
 use Rattle.ranking.proofs.Packed.{place_of_packed, bit_of_packed, decoy_of_packed}
@@ -27,9 +27,9 @@ use Rattle.fdr.specs.Inner.Passes.{side_payload, side_key, key_side, target_keys
 
 -- ---- keys in another order
 
-targets_insert : (n : ℕ) (xs : List ℕ) → target_keys (insert n xs) ≡ target_keys (n ∷ xs)
+targets_insert : (n : ℕ) (xs : List ℕ) → target_keys (key_inserted n xs) ≡ target_keys (n ∷ xs)
 unfolding target_keys
-targets_insert n [] = unfold insert in refl
+targets_insert n [] = unfold key_inserted in refl
 targets_insert n (x ∷ xs) = elim (lt_or_ge x n) [
   | inl k ↦ rw (insert_past n x xs k, targets_insert n xs) (add_left_comm (1 - decoy_bit x) (1 - decoy_bit n) (target_keys xs))
   | inr k ↦ rw (insert_here n x xs k)
@@ -149,7 +149,7 @@ module _ (t : Table) (scores : ScoresFit t (length t.forward)) where
 
 -- each key's slot is one of the table's
 pub listed_in_bounds : (t : Table) (lo n : ℕ) (ss : List Side) → n ≤ longest → Listed t lo (n * 2) ss
-    → All (SlotInBounds n) (map side_key ss)
+    → Each (SlotInBounds n) (map side_key ss)
 listed_in_bounds t lo n [] l w = tt
 listed_in_bounds t lo n (s ∷ ss) l w =
     let small : s.slot < n = omega (arith, w.0.high) in (
@@ -200,12 +200,12 @@ sorted_sides t short fit =
     ap (λ (ks : List ℕ). map (key_side t) (sorted ks)) (as_packed (payload_at t sides) 0 t sides (λ i l. ap (payload_at t sides) (zero-add i)))
     ∙ ap (map (key_side t)) (sorted_ranks (payload_at t sides) 0 scores up fit)
     ∙ map-map (key_side t) (λ (r : Row). packed r.score (payload_at t sides r.place)) (ranked scores)
-    ∙ go (ranked scores) (subst (λ (n : ℕ). All (λ r. r.place < n) (ranked scores)) many (in_list scores))
+    ∙ go (ranked scores) (subst (λ (n : ℕ). Each (λ r. r.place < n) (ranked scores)) many (in_list scores))
   where
     small : (p : ℕ) → p < length (seen_sides t) → payload_at t (seen_sides t) p < 4294967296
     small p h = omega (arith, (listed_at t 0 (length t.forward * 2) (seen_sides t) (seen_listed t) p h).high)
 
-    go : (rows : List Row) → All (λ r. r.place < length (seen_sides t)) rows
+    go : (rows : List Row) → Each (λ r. r.place < length (seen_sides t)) rows
         → map (λ r. key_side t (packed r.score (payload_at t (seen_sides t) r.place))) rows
         ≡ map (λ r. get_or (seen_sides t) r.place (side_of t 0 false)) rows
     go [] v = refl

@@ -2,7 +2,7 @@
 // the passes before give of their columns, and required of them here.
 ghost use Rattle.std.specs.Prelude.{◌≡◌, false, ◌<◌, eqb, pos, length, get_or};
 ghost use Rattle.folds.specs.Lists.{filled, tabulated};
-ghost use Rattle.folds.specs.Inner.All.{All};
+ghost use Rattle.folds.specs.Inner.Each.{Each};
 ghost use Rattle.ranking.specs.Inner.Layout.{place_of};
 ghost use Rattle.competition.specs.Batches.{no_part};
 ghost use Rattle.fdr.specs.NameQValues.{name_of};
@@ -24,7 +24,7 @@ fn name_of(names: Names, slot: usize, decoy: bool) -> usize
 // The q-value of every name, as bits: 1.0 where no row has it, and a later row's over an earlier one's, as the Rust's
 // map overwrites.
 pub fn name_q_values(names: Names, keys: &[u64], column: &mut [u64])
-    requires { All (λ k. NamesInBounds (length column.old) (place_of k)) keys.now }
+    requires { Each (λ k. NamesInBounds (length column.old) (place_of k)) keys.now }
     ensures { let ones = filled 1065353216 column.old in
         column.new ≡ written_at_names names keys.now ones }
 {
@@ -41,7 +41,7 @@ pub fn name_q_values(names: Names, keys: &[u64], column: &mut [u64])
 
 // A feature row's q-value. A label is C's i32, of which −1 alone is a decoy.
 fn row_q(names: Names, column: &[u64], slot: u32, label: i32) -> f32
-    requires bits { All NumberBits column.now }
+    requires bits { Each NumberBits column.now }
     requires names_in_bounds { eqb slot no_part ≡ false → NamesInBounds (length column.now) slot }
     ensures { result ≡ read_at_name names column.now slot label }
 {
@@ -54,8 +54,8 @@ fn row_q(names: Names, column: &[u64], slot: u32, label: i32) -> f32
 
 // Every feature row's q-value. By index: what is written behind `iter_mut().zip()` is not known to a proof.
 pub fn write_rows(names: Names, column: &[u64], slots: &[u32], labels: &[i32], q: &mut [f32])
-    requires bits { All NumberBits column.now }
-    requires slots_in_bounds { All (λ s. eqb s no_part ≡ false → NamesInBounds (length column.now) s) slots.now }
+    requires bits { Each NumberBits column.now }
+    requires slots_in_bounds { Each (λ s. eqb s no_part ≡ false → NamesInBounds (length column.now) s) slots.now }
     requires lengths { (length labels.now ≡ length slots.now) × (length q.old ≡ length slots.now) }
     ensures { let slots = slots.now in
         let labels = labels.now in

@@ -2,7 +2,7 @@
 // and bins are two parameters: a rule of the project passes an estimator by value, beside the bin column.
 ghost use Rattle.std.specs.Prelude.{◌≡◌, map, not, ◌<◌, T, length};
 ghost use Rattle.std.specs.Float.Ieee.{is_nan};
-ghost use Rattle.folds.specs.Inner.All.{All};
+ghost use Rattle.folds.specs.Inner.Each.{Each};
 ghost use Rattle.floats.specs.Constants.{f32_one};
 ghost use Rattle.floats.specs.Ratio.{one_in};
 ghost use Rattle.counting.specs.QValues.{running_minimum, targets_at_most};
@@ -73,7 +73,7 @@ fn write_ratios(settings: Settings, bins: &[f64], table: &Table, keys: &mut [u64
 // From the last row up: the least ratio so far takes the ratio's place. Counts the targets at or under 0.01. By index:
 // what is written behind `iter_mut().rev()` is not known to a proof.
 fn take_minima(keys: &mut [u64]) -> usize
-    requires { All HoldsNumber keys.old }
+    requires { Each HoldsNumber keys.old }
     ensures count { let minima = running_minimum (map key_number keys.old) in
         result ≡ targets_at_most (one_in 100) (map label_of keys.old) minima }
     ensures keys { let minima = running_minimum (map key_number keys.old) in

@@ -218,17 +218,17 @@ pub rounded_below : (N i : ℕ) → Place N i → N < end → closest N (last_di
 rounded_below N i h l = go (native.Mathlib.Nat.eq-or-lt_of_le h.most)
   where
     last : i ≡ 253 → closest N (last_digit 253) ≤ 16777215
-    last e = closest_mono N (2 ^ 1178) (end - 1) (2 ^ 1178) (pow_pos 1178) (pow_pos 1178) (mul-le-mul_right (2 ^ 1178) (pred N end l))
+    last e = closest_mono N (2 ^ 1178) (end - 1) (2 ^ 1178) (pow_pos 1178) (pow_pos 1178) (mul-le-mul_right (2 ^ 1178) (one_less N end l))
       where
-        pred : (a b : ℕ) → a < b → a ≤ b - 1
-        pred a b g = omega arith
+        one_less : (a b : ℕ) → a < b → a ≤ b - 1
+        one_less a b g = omega arith
 
     go : (i ≡ 253) ⊎ (i < 253) → closest N (last_digit i) * 2 ^ i < 2 ^ 277
     go (inl e) = subst (λ (k : ℕ). closest N (last_digit k) * 2 ^ k < 2 ^ 277) (sym e) (lt_of_le_of_lt (mul-le-mul_right (2 ^ 253) (last e)) (lit< tt))
-    go (inr g) = lt_of_le_of_lt (mul-le-mul (few N i h) (pow_mono (pred g))) (lit< tt)
+    go (inr g) = lt_of_le_of_lt (mul-le-mul (few N i h) (pow_mono (one_less g))) (lit< tt)
       where
-        pred : i < 253 → i ≤ 252
-        pred e = omega arith
+        one_less : i < 253 → i ≤ 252
+        one_less e = omega arith
 
 above_all : (y : Float) → T (le (inf false) y) → y ≡ inf false
 unfolding le

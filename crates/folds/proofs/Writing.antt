@@ -14,7 +14,7 @@ use borrow.Author.Count.{below_more}
 use borrow.Author.Tests.{lt-ltb, le-ltb, eqb-true, eqb-false}
 use Rattle.folds.proofs.Tests.{lt_or_ge}
 use Rattle.folds.specs.Lists.{filled, tabulated}
-use Rattle.folds.specs.Inner.All.{All}
+use Rattle.folds.specs.Inner.Each.{Each}
 
 -- columns of one length have one blank
 pub same_blank : {A : Type 0} (v : A) (c d : List A) → length c ≡ length d → filled v c ≡ filled v d
@@ -215,25 +215,25 @@ rewriting_done {A} {old} {new} {d} {n} {column} {i} {width} w h l =
 -- ---- what each element has
 
 module _ {A : Type 0} (P : A → Type 0) where
-  pub all_map : (Q : A → Type 0) → ((x : A) → P x → Q x) → (xs : List A) → All P xs → All Q xs
+  pub all_map : (Q : A → Type 0) → ((x : A) → P x → Q x) → (xs : List A) → Each P xs → Each Q xs
   all_map Q f [] w = tt
   all_map Q f (x ∷ xs) w = (f x w.0, all_map Q f xs w.1)
 
-  pub all_mapped : {B : Type 0} (Q : B → Type 0) (f : A → B) → ((x : A) → P x → Q (f x)) → (xs : List A) → All P xs
-      → All Q (map f xs)
+  pub all_mapped : {B : Type 0} (Q : B → Type 0) (f : A → B) → ((x : A) → P x → Q (f x)) → (xs : List A) → Each P xs
+      → Each Q (map f xs)
   all_mapped Q f g [] w = tt
   all_mapped Q f g (x ∷ xs) w = (g x w.0, all_mapped Q f g xs w.1)
 
-  pub all_append : (xs ys : List A) → All P xs → All P ys → All P (xs ++ ys)
+  pub all_append : (xs ys : List A) → Each P xs → Each P ys → Each P (xs ++ ys)
   all_append [] ys w v = v
   all_append (x ∷ xs) ys w v = (w.0, all_append xs ys w.1 v)
 
-  pub all_at : (d : A) (xs : List A) → All P xs → (i : ℕ) → i < length xs → P (get_or xs i d)
+  pub all_at : (d : A) (xs : List A) → Each P xs → (i : ℕ) → i < length xs → P (get_or xs i d)
   all_at d [] w i h = absurd (not-suc-le-zero h)
   all_at d (x ∷ xs) w zero h = w.0
   all_at d (x ∷ xs) w (suc i) h = all_at d xs w.1 i (le_of_suc-le-suc h)
 
-  pub all_set : (xs : List A) (i : ℕ) (v : A) → All P xs → P v → All P (set xs i v)
+  pub all_set : (xs : List A) (i : ℕ) (v : A) → Each P xs → P v → Each P (set xs i v)
   all_set [] i v w h = tt
   all_set (x ∷ xs) zero v w h = (h, w.1)
   all_set (x ∷ xs) (suc i) v w h = (w.0, all_set xs i v w.1 h)

@@ -1,1 +1,1 @@
-pub mod All
+pub mod Each

@@ -121,10 +121,10 @@ pivot_is_largest size h k m i l u c = elim best.picked [
   }
 ]
   where
-    max : Pivot
-    max = for_range (larger m k) h size (record { row = 0; value = f64_min })
+    pair : Pivot
+    pair = for_range (larger m k) h size (record { row = 0; value = f64_min })
 
-    best : Best h k m size max
+    best : Best h k m size pair
     best =
         for_range_keeps (Best h k m) (larger m k) h size (record { row = 0; value = f64_min }) (omega arith) (best_start h k m)
         (λ j l u. best_turn h k m j l)

@@ -2,6 +2,7 @@
 // and each helper after its user. Inside, a system is a table of twenty rows of twenty-one numbers, the last of a row
 // its right-hand number; outside its two sides are two arguments, as in the Rust. Arrays have a fixed size, since the
 // library takes no memory. Rows and columns are plain numbers: types for them would say no more than `i < 20`.
+// `inline(never)` stands where the compiler, with more in one function, copies the table between stages (D42).
 #![tactic(auto)]
 
 ghost use Rattle.std.specs.Prelude.{◌≡◌, ◌≤◌, ◌<◌};
@@ -58,8 +59,8 @@ fn solve_inner(
     Err(Refusal::Unsolved)
 }
 
-// The table of the system after the first two stages. With reduce and backfill in one function, the compiler copies
-// the table between stages.
+// The table of the system after the first two stages, a function of its own so that the compiler makes one table of all
+// that the stages take and return (D42).
 fn upper_form(left: &[[f64; 20]; 20], right: &[f64; 20], size: Size, eps: f64) -> Table
     ensures { let system = joined left.now right.now size.rows in
         result ≡ echeloned size.rows (diagonal_filled size.rows eps system) }
@@ -70,6 +71,7 @@ fn upper_form(left: &[[f64; 20]; 20], right: &[f64; 20], size: Size, eps: f64) -
 }
 
 // The right-hand numbers, and 0 past the size.
+#[inline(never)]
 fn answers(m: &Table, size: Size) -> [f64; 20]
     ensures { result ≡ values size.rows m.now }
 {
@@ -147,6 +149,7 @@ fn fill_zero(mut m: Table, size: Size, eps: f64) -> Table
 }
 
 // Is each diagonal entry 1 or 0, and no other above 1E-8?
+#[inline(never)]
 fn left_solved(m: &Table, size: Size) -> bool
     ensures { result ≡ left_solved size.rows m.now }
 {
@@ -190,6 +193,7 @@ fn echelon(mut m: Table, size: Size) -> Table
 
 // The row with the largest entry of column k from row h down, the last among equals; row 0 where none is at least
 // f64::MIN.
+#[inline(never)]
 fn pivot_row(m: &Table, size: Size, h: usize, k: usize) -> usize
     requires { (h < size.rows) × (k < size.rows) }
     ensures { (result ≡ pivot_row size.rows h k m.now) × (result < size.rows) }
@@ -214,6 +218,7 @@ fn pivot_row(m: &Table, size: Size, h: usize, k: usize) -> usize
 }
 
 // Clears column k below the pivot row h, which is copied once.
+#[inline(never)]
 fn clear_below(m: &mut Table, size: Size, h: usize, k: usize)
     requires { (h < size.rows) × (k < size.rows) }
     ensures { m.new ≡ cleared_below size.rows h k m.old }
@@ -286,6 +291,7 @@ fn backfill(mut m: Table, size: Size) -> Table
 }
 
 // Clears column j above row i: factor times row i is taken from each row above, from column 0 on.
+#[inline(never)]
 fn clear_above(m: &mut Table, size: Size, i: usize, j: usize)
     requires { (i < size.rows) × (j < size.rows) }
     ensures { m.new ≡ cleared_above size.rows i j m.old }

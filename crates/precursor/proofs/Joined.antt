@@ -6,7 +6,7 @@ use lib.IntN.{ℤ}
 use lib.ListN.{length}
 use lib.Ieee.{Float, nan}
 use Rattle.folds.specs.Lists.{filled}
-use Rattle.folds.specs.Inner.All.{All}
+use Rattle.folds.specs.Inner.Each.{Each}
 use Rattle.folds.proofs.Writing.{same_blank}
 use Rattle.columns.specs.Refusals.{ranked_run}
 use Rattle.std.specs.Prelude.{Ok}
@@ -45,7 +45,7 @@ module _ (labels : List ℤ) (scores : List Float) (keys₀ spare₀ : List ℕ)
   cleared = same_blank 0 keys keys₀ (length_keys ∙ sym f.keys_match)
 
   -- what `assign_q_value` asks
-  pub places_asked : All (λ k. place_of k < result) keys
+  pub places_asked : Each (λ k. place_of k < result) keys
   places_asked = rw (e, f.result_match) (keys_in_bounds labels scores f.short)
 
   -- what `picked_precursor` answers and leaves

@@ -1,6 +1,6 @@
 // Passes over the ranked keys. The bound on their number is a `requires` and no struct's: see `columns::LONGEST`.
 ghost use Rattle.std.specs.Prelude.{◌≡◌, map, ◌≤◌, ◌<◌, length};
-ghost use Rattle.folds.specs.Inner.All.{All};
+ghost use Rattle.folds.specs.Inner.Each.{Each};
 ghost use Rattle.columns.specs.Refusals.{longest};
 ghost use Rattle.floats.specs.Ratio.{one_in};
 ghost use Rattle.counting.specs.Labels.{decoys};
@@ -23,7 +23,7 @@ fn count_decoys(keys: &[u64]) -> u32
 // From the last row up: the least ratio so far goes to the row's place. Counts the targets at or under 0.05.
 pub fn assign_q_value(keys: &[u64], q: &mut [f32]) -> usize
     requires keys_len_bound { length keys.now ≤ longest }
-    requires places_in_bounds { All (λ key. place_of key < length q.old) keys.now }
+    requires places_in_bounds { Each (λ key. place_of key < length q.old) keys.now }
     ensures count { let labels = map label_of keys.now in
         result ≡ targets_at_most (one_in 20) labels (q_values labels) }
     ensures column { let ranked = keys.now in

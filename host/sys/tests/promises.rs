@@ -6,17 +6,56 @@ use std::ptr::{null, null_mut};
 use std::thread;
 use vayemuku_sys::*;
 
+/// What a command of binutils prints of the library.
+fn printed(command: &str, options: &[&str]) -> String {
+    let library = concat!(env!("CARGO_MANIFEST_DIR"), "/../../target/staticlib/libvayemuku.a");
+    let printed = Command::new(command).args(options).arg(library).output().expect("binutils are there");
+    assert!(printed.status.success());
+    String::from_utf8(printed.stdout).unwrap()
+}
+
 /// "allocates nothing, and makes no system call": the library needs no functions but C's three that write and copy
 /// memory.
 #[test]
 fn the_library_needs_nothing_but_copies() {
-    let library = concat!(env!("CARGO_MANIFEST_DIR"), "/../../target/staticlib/libvayemuku.a");
-    let listed = Command::new("nm").args(["--undefined-only", library]).output().expect("nm runs");
-    assert!(listed.status.success());
-    let listed = String::from_utf8(listed.stdout).unwrap();
+    let listed = printed("nm", &["--undefined-only"]);
     let needed: BTreeSet<&str> = listed.lines().filter_map(|line| line.trim().strip_prefix("U ")).collect();
     let copies = BTreeSet::from(["memcpy", "memmove", "memset"]);
     assert!(needed.is_subset(&copies), "{needed:?}");
+}
+
+/// "keeps no state": the library has nothing that a call could write to, neither a byte in a section nor a common
+/// symbol. What only the loader writes is constant.
+#[test]
+fn the_library_has_nothing_to_write_to() {
+    let (listed, symbols) = (printed("objdump", &["--section-headers"]), printed("nm", &[]));
+    let lines: Vec<&str> = listed.lines().collect();
+    let sections = lines.windows(2).filter(|pair| pair[1].contains("ALLOC") && !pair[1].contains("READONLY"));
+    let heads = sections.map(|pair| pair[0]).filter(|head| !head.contains(" .data.rel.ro"));
+    let written: Vec<&str> = heads.filter(|head| !head.contains(" 00000000 ")).collect();
+    assert!(lines.iter().any(|line| line.contains("READONLY")), "{listed}");
+    assert!(written.is_empty(), "{written:?}");
+    assert!(!symbols.lines().any(|line| line.contains(" C ")), "{symbols}");
+}
+
+/// "No stage copies it": the elimination fills one table, of twenty rows of twenty-one numbers, and copies none, nor
+/// does its stack have room for a second. The compiler sees to it, and no proof; with copies a small system takes more
+/// than twice as long (docs/DECISIONS.md, D42).
+#[test]
+fn the_elimination_has_one_table() {
+    let code = printed("objdump", &["--disassemble", "--reloc"]);
+    let functions: Vec<&str> = code.split("\n\n").filter(|function| function.contains("<gauss::")).collect();
+    let lines: Vec<&str> = functions.iter().copied().flat_map(str::lines).collect();
+    let bytes = 20 * 21 * size_of::<f64>();
+    let table = format!("$0x{bytes:x},");
+    let whole: Vec<usize> = (0..lines.len()).filter(|&line| lines[line].contains(&table)).collect();
+    let calls = whole.iter().map(|&line| lines[line..].iter().find(|line| line.contains("R_X86_64_PLT32")).unwrap());
+    let calls: Vec<&str> = calls.map(|call| call.split_whitespace().last().unwrap()).collect();
+    assert_eq!(calls, ["memset-0x4"]);
+    let solve = functions.iter().find(|function| function.contains(" <gauss::solve_at>:")).unwrap();
+    let room = |line: &str| usize::from_str_radix(line.split("sub    $0x").nth(1)?.strip_suffix(",%rsp")?, 16).ok();
+    let rooms: Vec<usize> = solve.lines().filter_map(room).collect();
+    assert!((bytes..2 * bytes).contains(&rooms.iter().sum()), "{rooms:?}");
 }
 
 /// The numbers of a line's check, as pointers.

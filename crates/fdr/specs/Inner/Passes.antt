@@ -3,7 +3,7 @@
 use Rattle.std.specs.Prelude.{◌≡◌, List, [], ◌∷◌, map, true, not, cond, ℕ, ◌+◌, ◌-◌, ◌*◌, ◌≤◌, ◌<◌, T, eqb, ℤ, length, get_or, set, Float}
 use Rattle.std.specs.Float.{nan, binary32}
 use Rattle.std.specs.Float.Ieee.{fits, is_nan, of_bits, to_bits}
-use Rattle.folds.specs.Inner.All.{All}
+use Rattle.folds.specs.Inner.Each.{Each}
 use Rattle.floats.specs.Constants.{f32_one}
 use Rattle.floats.specs.MinMax.{min_number}
 use Rattle.columns.specs.Refusals.{longest}
@@ -102,7 +102,7 @@ pub record ScoresFit (t : Table) (n : ℕ) : Type 0 where
 pub record RatiosReady (bins : ℕ) (t : Table) (keys : List ℕ) : Type 0 where
   pub range : InRange bins
   pub reverse_length : length t.reverse ≡ length t.forward
-  pub in_bounds : All (SlotInBounds (length t.forward)) keys
+  pub in_bounds : Each (SlotInBounds (length t.forward)) keys
   pub countable : target_keys keys ≤ longest
 
 -- ---- what the questions let pass

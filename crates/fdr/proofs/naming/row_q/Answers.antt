@@ -8,7 +8,7 @@ use lib.Dec.{T, eqb}
 use lib.ListN.{length, get_or}
 use lib.Ieee.{binary32}
 use lib.Ieee.Bits.{nan_bits_is}
-use Rattle.folds.specs.Inner.All.{All}
+use Rattle.folds.specs.Inner.Each.{Each}
 use Rattle.folds.proofs.Writing.{all_at}
 use Rattle.competition.specs.Batches.{no_part}
 use Rattle.fdr.specs.NameQValues.{name_of}
@@ -25,7 +25,7 @@ in_bounds : (column : List ℕ) (names : Names) {slot name : ℕ} (bit : Bool)
 in_bounds column names {slot} bit b n e =
     subst (λ (n : ℕ). n < length column) (sym e) (name_in_bounds names slot bit _ (b (ne_eqb slot no_part n)))
 
-bits_at : (column : List ℕ) (names : Names) {slot name : ℕ} (bit : Bool) → All NumberBits column
+bits_at : (column : List ℕ) (names : Names) {slot name : ℕ} (bit : Bool) → Each NumberBits column
     → (eqb slot no_part ≡ false → NamesInBounds (length column) slot) → (slot ≡ no_part → ⊥)
     → name ≡ name_of names slot bit
     → NumberBits (get_or column name 0)

@@ -1,6 +1,0 @@
-use Rattle.std.specs.Prelude.{List, [], ◌∷◌}
-
--- each element has P
-abbrev pub All : {A : Type 0} → (A → Type 0) → List A → Type 0
-All P [] = Unit {0}
-All P (x ∷ xs) = P x × All P xs
