@@ -9,9 +9,9 @@ ghost use Rattle.std.specs.Prelude.{◌≡◌, ◌≤◌, ◌<◌};
 ghost use Rattle.gauss.specs.Elimination.{swapped, diagonal_filled, left_solved, solved_at, echeloned, pivot_row};
 ghost use Rattle.gauss.specs.Elimination.{cleared_below, reduced, cleared_above, backfilled};
 ghost use Rattle.gauss.specs.Inner.Rows.{row_joined, subtracted, divided};
-ghost use Rattle.gauss.specs.Solutions.{joined, values, attempt, solution};
+ghost use Rattle.gauss.specs.Solutions.{joined, values, attempt, solution, solved_values};
 
-use columns::Refusal;
+use columns::{HasBlank, Refusal};
 
 // A system inside: its rows, each with its right-hand number.
 type Table = [[f64; 21]; 20];
@@ -88,6 +88,13 @@ pub fn solve(left: [[f64; 20]; 20], right: [f64; 20], size: usize) -> Result<[f6
     ensures { result ≡ solution left right size }
 {
     solve_at(&left, &right, size)
+}
+
+// The twenty numbers of an answer, as C gets them: NaN in every place where a call refuses.
+pub fn solved_values(answer: Result<[f64; 20], Refusal>) -> [f64; 20]
+    ensures { result ≡ solved_values answer }
+{
+    answer.unwrap_or([f64::blank(); 20])
 }
 
 // That, of a system that is read where it is, without a copy. Question 3 is asked here, by two tests: asked by one, or

@@ -11,6 +11,7 @@ ghost use Rattle.std.specs.Prelude.{◌≡◌, ◌*◌, ◌<◌, eqb, length};
 ghost use Rattle.linear_discriminant.specs.Fit.{class_of};
 
 pub use fit::train;
+pub use gauss::solved_values;
 pub use scores::{score, score_rows};
 
 // The rows of a fit: twenty features and a label each.

@@ -28,20 +28,17 @@ fn same_values(recording: &mut Recording<'_>, size: usize, values: &[f64; 20]) -
     same & replay::holds_only(&values[size..], 0.0)
 }
 
-// Whether the next system has the recorded answer, or the refusal with the recorded number, after which C gets twenty
-// NaN.
+// Whether the next system has the recorded answer, or the recorded refusal and twenty NaN, as C gets them.
 fn same_system(recording: &mut Recording<'_>) -> bool {
     let size = recording.read_length();
     let left = read_left(recording, size);
     let right = read_row(recording, size);
     let recorded = recording.read::<u32>();
-    match gauss::solve(left, right, size) {
-        Ok(values) => same_values(recording, size, &values) & (recorded == 0),
-        Err(refusal) => {
-            let mut values = right;
-            columns::blank(&mut values);
-            replay::holds_only(&values, f64::NAN) & (recorded == u32::from(refusal))
-        }
+    let answer = gauss::solve(left, right, size);
+    let values = gauss::solved_values(answer);
+    match answer {
+        Ok(_) => same_values(recording, size, &values) & (recorded == 0),
+        Err(refusal) => { replay::holds_only(&values, f64::NAN) & (recorded == u32::from(refusal)) }
     }
 }
 

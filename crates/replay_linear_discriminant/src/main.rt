@@ -9,8 +9,8 @@ use std::io;
 // No recorded list has more rows.
 const MOST_ROWS: usize = 60;
 
-// Whether the fit of the next list has the recorded coefficients, or the refusal with the recorded number, after which
-// C gets twenty NaN.
+// Whether the fit of the next list has the recorded coefficients, or the recorded refusal and twenty NaN, as C gets
+// them.
 fn same_fit(alloc: Global, recording: &mut Recording<'_>) -> Result<bool, AllocError> {
     let rows = recording.read_length();
     if rows > MOST_ROWS {
@@ -20,13 +20,11 @@ fn same_fit(alloc: Global, recording: &mut Recording<'_>) -> Result<bool, AllocE
     let features = recording.read_column::<f64>(alloc, rows * 20)?;
     let recorded = recording.read::<u32>();
     let answer = linear_discriminant::train(&features, &labels);
+    let coefficients = linear_discriminant::solved_values(answer);
     let same_number = columns::answer_number(&answer) == recorded;
     if recorded != 0 {
-        let mut values = [9.0f64; 20];
-        columns::blank(&mut values);
-        return Ok(replay::holds_only(&values, f64::NAN) & same_number);
+        return Ok(replay::holds_only(&coefficients, f64::NAN) & same_number);
     }
-    let coefficients = answer.unwrap_or([f64::NAN; 20]);
     Ok(recording.same_column(&coefficients) & same_number)
 }
 

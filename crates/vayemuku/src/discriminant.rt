@@ -7,8 +7,6 @@ ghost use Rattle.linear_discriminant.specs.Rows.{scored};
 ghost use Rattle.linear_discriminant.specs.Fit.{trained};
 ghost use Rattle.linear_discriminant.specs.Scores.{scored_rows};
 
-use columns::HasBlank;
-
 // `coefficients` gets the fit's twenty numbers, or twenty NaN.
 #[unsafe(no_mangle)]
 pub extern "C" fn vayemuku_train(
@@ -20,7 +18,7 @@ pub extern "C" fn vayemuku_train(
         result and coefficients.new ≡ answer_number fitted and solved_values fitted }
 {
     let fitted = linear_discriminant::train(features, labels);
-    *coefficients = fitted.unwrap_or([f64::blank(); 20]);
+    *coefficients = gauss::solved_values(fitted);
     columns::answer_number(&fitted)
 }
 

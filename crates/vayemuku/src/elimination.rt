@@ -4,8 +4,6 @@ ghost use Rattle.std.specs.Prelude.{◌≡◌};
 ghost use Rattle.columns.specs.Refusals.{answer_number, ◌and◌};
 ghost use Rattle.gauss.specs.Solutions.{solution, solved_values};
 
-use columns::HasBlank;
-
 // `values` gets the answer, with 0 past the size, or twenty NaN.
 #[unsafe(no_mangle)]
 pub extern "C" fn vayemuku_solve(
@@ -18,6 +16,6 @@ pub extern "C" fn vayemuku_solve(
         result and values.new ≡ answer_number solved and solved_values solved }
 {
     let solved = gauss::solve_at(left, right, size);
-    *values = solved.unwrap_or([f64::blank(); 20]);
+    *values = gauss::solved_values(solved);
     columns::answer_number(&solved)
 }
