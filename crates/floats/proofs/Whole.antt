@@ -253,7 +253,7 @@ cut_inside f (fin s m e) z t h k =
     let small : q < 2 ^ (prec f - 1) = (div-lt_iff_lt-mul (down_pos e)).1 h in
     rw (k, cut_is f s m e small, stored s q (omega (arith, in_63 f))) (below_limit f m e q refl (omega (arith, doubled f)) s t)
 
--- ---- what the code relies on, from its first test to its answers
+-- ---- a floor by a cut to a whole number, from its first test to its answers
 pub record FloorCode (f : Format) (x : Float) : Type 0 where
   pub from_limit : lt x (whole_limit f false) ≡ false → x ≡ floored f x
   pub to_limit : lt (whole_limit f true) x ≡ false → x ≡ floored f x
